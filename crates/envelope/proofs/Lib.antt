@@ -1,0 +1,5 @@
+pub mod Steps
+pub mod Readings
+pub mod Laws
+pub mod Judgements
+pub mod Listings

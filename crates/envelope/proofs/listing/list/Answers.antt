@@ -1,0 +1,19 @@
+use mathlib.Core.Path.{ap, sym, _∙_}
+use mathlib.Core.List.{map, _++_}
+use lib.ListN.{length}
+use Rattle.envelope.proofs.Listings.{line-more, line-last}
+use Rattle.envelope.specs.Held.{held}
+use Rattle.envelope.specs.Listing.{head-line, listing}
+use Rattle.envelope.specs.Entries.{entry}
+use Rattle.envelope.proofs.listing.list.Needs as need
+
+pub loop-record-again : need.loop-record-again
+loop-record-again c = line-more head-line _ _ (c .loop-record .inv) _ (c .loop-record-test .taken) (c .in-Continue-add-record .ensures tt)
+
+pub returns : need.returns
+returns c =
+    let all = c .args .reading .now .records in
+    let items = c .deref-record-items .ensures .value in
+    let count = c .len .ensures ∙ all .ok .0 ∙ ap length (sym items) in
+    line-last head-line _ _ (c .loop-record .inv) _ _ (c .loop-record-test .left) count (c .in-Continue-add-last .ensures tt)
+    ∙ ap (λ rs. listing (record { entries = map entry rs; fault = c .args .reading .now .fault })) items

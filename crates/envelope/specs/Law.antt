@@ -1,0 +1,48 @@
+-- The law of reading: what is read is what stands in the envelope. Assumes nothing.
+use mathlib.Core.Path.{_≡_}
+use mathlib.Core.List.{List, [], _∷_}
+use mathlib.Core.Logic.{_⊎_}
+use Prim.Native.Nat.{ℕ, _+_, _<_}
+use lib.ListN.{length, take, drop}
+use Rattle.std.specs.declared.option.Option.the-variants.{Some, None}
+use Rattle.std.specs.Joined.{joined}
+use Rattle.fault.specs.declared.Fault.{Fault}
+use Rattle.fault.specs.declared.Origin.the-variants.{Envelope}
+use Rattle.fault.specs.declared.Refusal.{Refusal}
+use Rattle.fault.specs.declared.Refusal.the-variants.{UnknownKind, BodyCutShort}
+use Rattle.envelope.specs.declared.kind.Kind.{Kind}
+use Rattle.envelope.specs.Entries.{Entry, written}
+use Rattle.envelope.specs.Kinds.{kind-byte, body-length}
+use Rattle.envelope.specs.Reading.{Outcome}
+
+-- each record has a body of its kind's length, and they stand one after the other from a place on
+abbrev pub Placed : ℕ → List Entry → Type 0
+Placed place [] = Unit {0}
+Placed place (e ∷ es) = (e .place ≡ place) × (length (e .body) ≡ body-length (e .kind)) × Placed (place + length (written e)) es
+
+-- no kind begins with this byte
+abbrev pub Unknown : ℕ → Type 0
+Unknown b = (k : Kind) → kind-byte k ≡ b → ⊥
+
+-- a kind begins with this byte, and its body is longer than what is left
+abbrev pub Short : ℕ → List ℕ → Type 0
+Short b left = (k : Kind) × (kind-byte k ≡ b) × (length left < body-length k)
+
+-- what stands where a reading is refused
+abbrev pub Stands : Refusal → List ℕ → Type 0
+Stands r [] = ⊥
+Stands r (b ∷ left) = ((r ≡ UnknownKind) × Unknown b) ⊎ ((r ≡ BodyCutShort) × Short b left)
+
+-- the bytes before a fault's place are the records before it, written out one after the other
+pub record Stopped (bytes : List ℕ) (es : List Entry) (f : Fault) : Type 0 where
+  pub origin : f .origin ≡ Envelope
+  pub before : joined written es ≡ take (f .place) bytes
+  pub stands : Stands (f .refusal) (drop (f .place) bytes)
+
+pub record Faithful (bytes : List ℕ) (o : Outcome) : Type 0 where
+  pub placed : Placed 0 (o .entries)
+  -- where there is no fault, the records written out one after the other are the envelope
+  pub whole : o .fault ≡ None → joined written (o .entries) ≡ bytes
+  pub stopped : (f : Fault) → o .fault ≡ Some f → Stopped bytes (o .entries) f
+  -- and an envelope that can be written out of records can be read in no other way
+  pub only : (es : List Entry) → Placed 0 es → joined written es ≡ bytes → (o .entries ≡ es) × (o .fault ≡ None)

@@ -1,0 +1,8 @@
+pub mod Kinds
+pub mod Entries
+pub mod Reading
+pub mod Law
+pub mod Held
+pub mod Listing
+pub mod Judging
+pub mod Tallies

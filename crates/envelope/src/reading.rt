@@ -1,0 +1,38 @@
+// Reads an envelope from end to end.
+ghost use mathlib.Core.Path.{_≡_};
+ghost use Rattle.std.specs.Vec.{made};
+ghost use Rattle.envelope.specs.Held.{held};
+ghost use Rattle.envelope.specs.Law.{Faithful};
+ghost use Rattle.envelope.specs.Reading.{reading};
+use crate::reader::Reader;
+use crate::record::Record;
+use crate::record::RecordDebug;
+use fault::Fault;
+use fault::FaultDebug;
+use std::alloc::AllocError;
+use std::alloc::Global;
+
+// The records of an envelope in their order, and the fault that ended the reading, if one did.
+#[derive(Debug, Drop)]
+pub struct Reading<'a> {
+    pub records: Vec<Record<'a>>,
+    pub fault: Option<Fault>,
+}
+
+pub fn read<'a>(heap: Global, envelope: &'a [u8]) -> Result<Reading<'a>, AllocError>
+    ensures reads { λ r. ⌜ made r (λ x. held x ≡ reading (now (envelope .entry))) ⌝ }
+    ensures faithful { λ r. ⌜ made r (λ x. Faithful (now (envelope .entry)) (held x)) ⌝ }
+{
+    let mut reader = Reader::new(envelope);
+    let mut records = Vec::new(heap);
+    loop {
+        let next = match reader.next() {
+            Ok(next) => next,
+            Err(fault) => return Ok(Reading { records, fault: Some(fault) }),
+        };
+        let Some(record) = next else {
+            return Ok(Reading { records, fault: None });
+        };
+        records.push(record)?;
+    }
+}

@@ -1,0 +1,12 @@
+-- What a fault is written as. Assumes nothing.
+use mathlib.Core.List.{List, _++_}
+use Prim.Native.Nat.{ℕ}
+use lib.Chars.{codes}
+use Rattle.std.specs.Written.{decimal}
+use Rattle.fault.specs.declared.Fault.{Fault}
+use Rattle.fault.specs.Numbers.{number, letter}
+
+-- as in `refusal 13 layer E place 5`, with no line feed
+abbrev pub refusal-line : Fault → List ℕ
+refusal-line f =
+    codes "refusal " ++ (decimal (number (f .refusal)) ++ (codes " layer " ++ (letter (f .origin) ++ (codes " place " ++ decimal (f .place)))))
