@@ -14,6 +14,7 @@ use Rattle.std.specs.Joined.{joined}
 use Rattle.std.specs.Options.{okOr, mapped}
 use Rattle.fault.specs.declared.Fault.{Fault}
 use Rattle.fault.specs.declared.Refusal.the-variants.{NotOneCouple}
+use Rattle.fault.specs.Numbers.{letter, Told, told}
 use Rattle.envelope.specs.declared.couple.Couple.{Couple}
 use Rattle.envelope.specs.declared.kind.Set.{Set}
 use Rattle.envelope.specs.declared.kind.Set.the-variants.{S16, Rehearsal}
@@ -102,7 +103,7 @@ judged-exact bytes o faithful = go (o .fault) refl
         let z : _≡_ {A = ℕ} 0 1 = cc (ap couple-of same, couple-from (c .entries) k s (c .couples)) in
         omega arith
 
-    go : (f : Option Fault) → o .fault ≡ f → Exact bytes (judged f (o .entries) (length bytes))
+    go : (f : Option Told) → o .fault ≡ f → Exact bytes (judged f (o .entries) (length bytes))
     go (Some f) is = λ k s c. let z : _≡_ {A = ℕ} 0 1 = cc (faithful .only (c .entries) (c .placed) (c .whole) .1) in omega arith
     go None is = found (couple-of (o .entries)) refl is
 
@@ -115,6 +116,6 @@ answers bytes o v is judges =
     let same = judges ∙ ap (λ p. judged (p .fault) (p .entries) (length bytes)) (sym is) in
     (same, subst (Exact bytes) (sym same) (exact bytes))
 
-pub verdict-or : (o : Option Couple) (f : Fault) → verdict (okOr o f) ≡ okOr (mapped couple-items o) f
+pub verdict-or : (o : Option Couple) (f : Fault) → verdict (okOr o f) ≡ okOr (mapped couple-items o) (told f)
 verdict-or None f = refl
 verdict-or (Some c) f = refl

@@ -13,9 +13,9 @@ use Rattle.std.specs.declared.option.Option.{Option}
 use Rattle.std.specs.declared.option.Option.the-variants.{Some, None}
 use Rattle.std.specs.declared.result.Result.the-variants.{Ok, Err}
 use Rattle.std.specs.Joined.{joined}
-use Rattle.fault.specs.declared.Fault.{Fault}
 use Rattle.fault.specs.declared.Origin.the-variants.{Envelope}
 use Rattle.fault.specs.declared.Refusal.the-variants.{UnknownKind, BodyCutShort}
+use Rattle.fault.specs.Numbers.{letter, Told, told}
 use Rattle.envelope.specs.declared.kind.Kind.{Kind}
 use Rattle.envelope.specs.declared.kind.Kind.the-variants.{Key, Signature, Day}
 use Rattle.envelope.specs.declared.kind.Set.the-variants.{S16, Rehearsal}
@@ -42,7 +42,7 @@ byte-among (j ∷ ks) b k e = byte-first (eqb (kind-byte j) b) b j k (kind-among
 -- what stands first is a whole record, or nothing that can be read
 data First (place b : ℕ) (bytes : List ℕ) : Next → Type 0 where
   whole : (k : Kind) → kind-byte k ≡ b → body-length k ≤ length bytes → First place b bytes (Ok (Some (record { place = place; kind = k; body = take (body-length k) bytes })))
-  refused : (f : Fault) → f .origin ≡ Envelope → f .place ≡ place → Stands (f .refusal) (b ∷ bytes) → First place b bytes (Err f)
+  refused : (f : Told) → f .letter ≡ letter Envelope → f .place ≡ place → Stands (f .number) (b ∷ bytes) → First place b bytes (Err f)
 
 first : (place b : ℕ) (bytes : List ℕ) → First place b bytes (next-at place (b ∷ bytes))
 first place b bytes = go (kind-of b) refl
@@ -59,8 +59,8 @@ first place b bytes = go (kind-of b) refl
 record From (place : ℕ) (bytes : List ℕ) (o : Outcome) : Type 0 where
   placed : Placed place (o .entries)
   whole : o .fault ≡ None → joined written (o .entries) ≡ bytes
-  stopped : (f : Fault) → o .fault ≡ Some f
-    → (left : List ℕ) × (joined written (o .entries) ++ left ≡ bytes) × (f .place ≡ place + length (joined written (o .entries))) × (f .origin ≡ Envelope) × Stands (f .refusal) left
+  stopped : (f : Told) → o .fault ≡ Some f
+    → (left : List ℕ) × (joined written (o .entries) ++ left ≡ bytes) × (f .place ≡ place + length (joined written (o .entries))) × (f .letter ≡ letter Envelope) × Stands (f .number) left
 
 none : (place : ℕ) → From place [] (record { entries = []; fault = None })
 none place = record { placed = tt; whole = λ e. refl; stopped = λ f e. absurd (let z : _≡_ {A = ℕ} 0 1 = cc in omega arith) }
@@ -90,7 +90,7 @@ after place b bytes _ o (refused f origin at stands) less =
     record {
       placed = tt;
       whole = λ e. absurd (let z : _≡_ {A = ℕ} 0 1 = cc in omega arith);
-      stopped = λ g e. let same : f ≡ g = cc in subst (λ h. (left : List ℕ) × (left ≡ b ∷ bytes) × (h .place ≡ place + 0) × (h .origin ≡ Envelope) × Stands (h .refusal) left) same (b ∷ bytes, refl, omega arith, origin, stands);
+      stopped = λ g e. let same : f ≡ g = cc in subst (λ h. (left : List ℕ) × (left ≡ b ∷ bytes) × (h .place ≡ place + 0) × (h .letter ≡ letter Envelope) × Stands (h .number) left) same (b ∷ bytes, refl, omega arith, origin, stands);
     }
 
 from : (n place : ℕ) (bytes : List ℕ) → length bytes ≤ n → From place bytes (reading-within n place bytes)
@@ -127,7 +127,7 @@ law bytes =
           record {
             origin = s .3;
             before = sym (take-at _ (s .0) _ at) ∙ ap (take (f .place)) (s .1);
-            stands = subst (Stands (f .refusal)) (sym (drop-at _ (s .0) _ at) ∙ ap (drop (f .place)) (s .1)) (s .4);
+            stands = subst (Stands (f .number)) (sym (drop-at _ (s .0) _ at) ∙ ap (drop (f .place)) (s .1)) (s .4);
           };
       only = λ es p e.
           let same : reading-from 0 bytes ≡ record { entries = es; fault = None } = ap (reading-from 0) (sym e) ∙ again _ 0 es p (omega arith) in

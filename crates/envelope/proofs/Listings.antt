@@ -6,7 +6,7 @@ use lib.ListN.{length, getD, take}
 use Rattle.std.proofs.shelf.Lists.{joined-more, map-more, take-all, length-map}
 use Rattle.std.specs.declared.option.Option.{Option}
 use Rattle.std.specs.Joined.{joined}
-use Rattle.fault.specs.declared.Fault.{Fault}
+use Rattle.fault.specs.Numbers.{letter, Told, told}
 use Rattle.envelope.specs.declared.record.Record.{Record}
 use Rattle.envelope.specs.Entries.{entry}
 use Rattle.envelope.specs.Listing.{record-line, last-line}
@@ -17,7 +17,7 @@ module _ (head : List ℕ) (rs : List Record) (i : ℕ) {before after : List ℕ
       added ∙ ap (λ l. l ++ record-line (entry (getD rs i d))) lines ∙ joined-more record-line head (map entry (take i rs)) (entry (getD rs i d))
       ∙ ap (λ es. head ++ joined record-line es) (sym (map-more entry rs i d inside))
 
-  pub line-last : (n : ℕ) (f : Option Fault) → length rs ≤ i → n ≡ length rs → after ≡ before ++ last-line n f
+  pub line-last : (n : ℕ) (f : Option Told) → length rs ≤ i → n ≡ length rs → after ≡ before ++ last-line n f
     → after ≡ head ++ (joined record-line (map entry rs) ++ last-line (length (map entry rs)) f)
   line-last n f past count added =
       added ∙ ap (λ l. l ++ last-line n f) (lines ∙ ap (λ xs. head ++ joined record-line (map entry xs)) (take-all i rs past))

@@ -8,7 +8,7 @@ use Rattle.std.specs.declared.option.Option.{Option}
 use Rattle.std.specs.declared.option.Option.the-variants.{Some, None}
 use Rattle.std.specs.declared.result.Result.the-variants.{Ok, Err}
 use Rattle.std.specs.Joined.{joined}
-use Rattle.fault.specs.declared.Fault.{Fault}
+use Rattle.fault.specs.Numbers.{letter, Told, told}
 use Rattle.envelope.specs.declared.kind.Kind.{Kind}
 use Rattle.envelope.specs.declared.record.Record.{Record}
 use Rattle.envelope.specs.Entries.{Entry, entry, written}
@@ -60,7 +60,7 @@ then-on {bytes} {es} {place} {left} before x e =
 pub ended : {bytes : List ℕ} {es : List Entry} {place : ℕ} {left : List ℕ} → Sofar bytes es place left → Ok None ≡ next-at place left → reading bytes ≡ record { entries = es; fault = None }
 ended {bytes} {es} before found = then-on before (Ok None) found ∙ ap (λ xs. record { entries = xs; fault = None }) (append-nil es)
 
-pub stopped : {bytes : List ℕ} {es : List Entry} {place : ℕ} {left : List ℕ} → Sofar bytes es place left → (f : Fault) → Err f ≡ next-at place left → reading bytes ≡ record { entries = es; fault = Some f }
+pub stopped : {bytes : List ℕ} {es : List Entry} {place : ℕ} {left : List ℕ} → Sofar bytes es place left → (f : Told) → Err f ≡ next-at place left → reading bytes ≡ record { entries = es; fault = Some f }
 stopped {bytes} {es} before f found = then-on before (Err f) found ∙ ap (λ xs. record { entries = xs; fault = Some f }) (append-nil es)
 
 -- the record e stands at a place, and rest are the bytes after it

@@ -13,6 +13,7 @@ use Rattle.std.specs.Joined.{joined}
 use Rattle.std.specs.Options.{okOr}
 use Rattle.fault.specs.declared.Fault.{Fault}
 use Rattle.fault.specs.declared.Refusal.the-variants.{NotOneCouple}
+use Rattle.fault.specs.Numbers.{Told, told}
 use Rattle.envelope.specs.declared.couple.Couple.{Couple}
 use Rattle.envelope.specs.declared.kind.Kind.{Kind}
 use Rattle.envelope.specs.declared.kind.Kind.the-variants.{Key, Signature, Day}
@@ -80,14 +81,14 @@ signature-item c = record { set = c .set; place = c .signature .place; bytes = c
 
 -- the answer of the judge is a key and a signature, or a fault
 abbrev pub Verdict : Type 0
-Verdict = Result (Item × Item) Fault
+Verdict = Result (Item × Item) Told
 
 abbrev pub couple-items : Couple → Item × Item
 couple-items c = (key-item c, signature-item c)
 
 abbrev pub verdict : Result Couple Fault → Verdict
 verdict (Ok c) = Ok (couple-items c)
-verdict (Err f) = Err f
+verdict (Err f) = Err (told f)
 
 abbrev pub same-set : Set → Set → Bool
 same-set S16 S16 = true
@@ -111,7 +112,7 @@ abbrev pub couple-of : List Entry → Option (Item × Item)
 couple-of es = coupled (only (keys es)) (only (signatures es)) (leb (length (days es)) 1)
 
 -- a fault of the reading comes first, and then 14 at the envelope's length
-abbrev pub judged : Option Fault → List Entry → ℕ → Verdict
+abbrev pub judged : Option Told → List Entry → ℕ → Verdict
 judged (Some f) es n = Err f
 judged None es n = okOr (couple-of es) (fault-at NotOneCouple n)
 

@@ -6,10 +6,9 @@ use Prim.Native.Nat.{ℕ, _+_, _<_}
 use lib.ListN.{length, take, drop}
 use Rattle.std.specs.declared.option.Option.the-variants.{Some, None}
 use Rattle.std.specs.Joined.{joined}
-use Rattle.fault.specs.declared.Fault.{Fault}
 use Rattle.fault.specs.declared.Origin.the-variants.{Envelope}
-use Rattle.fault.specs.declared.Refusal.{Refusal}
 use Rattle.fault.specs.declared.Refusal.the-variants.{UnknownKind, BodyCutShort}
+use Rattle.fault.specs.Numbers.{number, letter, Told}
 use Rattle.envelope.specs.declared.kind.Kind.{Kind}
 use Rattle.envelope.specs.Entries.{Entry, written}
 use Rattle.envelope.specs.Kinds.{kind-byte, body-length}
@@ -28,21 +27,21 @@ Unknown b = (k : Kind) → kind-byte k ≡ b → ⊥
 abbrev pub Short : ℕ → List ℕ → Type 0
 Short b left = (k : Kind) × (kind-byte k ≡ b) × (length left < body-length k)
 
--- what stands where a reading is refused
-abbrev pub Stands : Refusal → List ℕ → Type 0
-Stands r [] = ⊥
-Stands r (b ∷ left) = ((r ≡ UnknownKind) × Unknown b) ⊎ ((r ≡ BodyCutShort) × Short b left)
+-- what stands where a reading is refused with a number
+abbrev pub Stands : ℕ → List ℕ → Type 0
+Stands n [] = ⊥
+Stands n (b ∷ left) = ((n ≡ number UnknownKind) × Unknown b) ⊎ ((n ≡ number BodyCutShort) × Short b left)
 
 -- the bytes before a fault's place are the records before it, written out one after the other
-pub record Stopped (bytes : List ℕ) (es : List Entry) (f : Fault) : Type 0 where
-  pub origin : f .origin ≡ Envelope
+pub record Stopped (bytes : List ℕ) (es : List Entry) (f : Told) : Type 0 where
+  pub origin : f .letter ≡ letter Envelope
   pub before : joined written es ≡ take (f .place) bytes
-  pub stands : Stands (f .refusal) (drop (f .place) bytes)
+  pub stands : Stands (f .number) (drop (f .place) bytes)
 
 pub record Faithful (bytes : List ℕ) (o : Outcome) : Type 0 where
   pub placed : Placed 0 (o .entries)
   -- where there is no fault, the records written out one after the other are the envelope
   pub whole : o .fault ≡ None → joined written (o .entries) ≡ bytes
-  pub stopped : (f : Fault) → o .fault ≡ Some f → Stopped bytes (o .entries) f
+  pub stopped : (f : Told) → o .fault ≡ Some f → Stopped bytes (o .entries) f
   -- and an envelope that can be written out of records can be read in no other way
   pub only : (es : List Entry) → Placed 0 es → joined written es ≡ bytes → (o .entries ≡ es) × (o .fault ≡ None)

@@ -9,8 +9,8 @@ use Rattle.std.specs.declared.option.Option.{Option}
 use Rattle.std.specs.declared.option.Option.the-variants.{Some, None}
 use Rattle.std.specs.Joined.{joined}
 use Rattle.std.specs.Written.{decimal}
-use Rattle.fault.specs.declared.Fault.{Fault}
 use Rattle.fault.specs.Lines.{refusal-line}
+use Rattle.fault.specs.Numbers.{Told}
 use Rattle.envelope.specs.Entries.{Entry}
 use Rattle.envelope.specs.Kinds.{kind-byte}
 use Rattle.envelope.specs.Reading.{Outcome, reading}
@@ -27,7 +27,7 @@ abbrev pub record-line : Entry → List ℕ
 record-line e = decimal (e .place) ++ (codes " " ++ (decimal (kind-byte (e .kind)) ++ (codes " " ++ (decimal (length (e .body)) ++ line-feed))))
 
 -- how many records there are, or what stopped the reading
-abbrev pub last-line : ℕ → Option Fault → List ℕ
+abbrev pub last-line : ℕ → Option Told → List ℕ
 last-line n None = codes "records " ++ (decimal n ++ line-feed)
 last-line n (Some f) = refusal-line f ++ line-feed
 

@@ -12,18 +12,19 @@ use Rattle.fault.specs.declared.Fault.{Fault}
 use Rattle.fault.specs.declared.Origin.the-variants.{Envelope}
 use Rattle.fault.specs.declared.Refusal.{Refusal}
 use Rattle.fault.specs.declared.Refusal.the-variants.{UnknownKind, BodyCutShort}
+use Rattle.fault.specs.Numbers.{number, letter, Told, told}
 use Rattle.envelope.specs.declared.kind.Kind.{Kind}
 use Rattle.envelope.specs.declared.record.Record.{Record}
 use Rattle.envelope.specs.Entries.{Entry, entry, written}
 use Rattle.envelope.specs.Kinds.{kind-of, body-length}
 
 -- a fault of the envelope itself
-abbrev pub fault-at : Refusal → ℕ → Fault
-fault-at refusal place = record { refusal = refusal; origin = Envelope; place = place }
+abbrev pub fault-at : Refusal → ℕ → Told
+fault-at refusal place = record { number = number refusal; letter = letter Envelope; place = place }
 
 -- what stands at a place: the end, a record, or a fault
 abbrev pub Next : Type 0
-Next = Result (Option Entry) Fault
+Next = Result (Option Entry) Told
 
 -- a record of a kind, whose body is the front of the bytes
 abbrev pub next-body : ℕ → Kind → List ℕ → Next
@@ -51,12 +52,12 @@ taken (Err f) = 0
 abbrev pub answered : Result (Option Record) Fault → Next
 answered (Ok (Some r)) = Ok (Some (entry r))
 answered (Ok None) = Ok None
-answered (Err f) = Err f
+answered (Err f) = Err (told f)
 
 -- the records of an envelope in their order, and the fault that ended the reading, if one did
 pub record Outcome : Type 0 where
   pub entries : List Entry
-  pub fault : Option Fault
+  pub fault : Option Told
 
 -- a record before what is read after it; the end or a fault is the last
 abbrev pub continued : Next → Outcome → Outcome

@@ -4,6 +4,8 @@ ghost use mathlib.Core.List.{_++_};
 ghost use Rattle.std.specs.Of.String.{string-bytes};
 ghost use Rattle.std.specs.Of.Vec.{vec-len};
 ghost use Rattle.std.specs.Vec.{made};
+ghost use Rattle.std.specs.Options.{mapped};
+ghost use Rattle.fault.specs.Numbers.{told};
 ghost use Rattle.envelope.specs.Entries.{entry};
 ghost use Rattle.envelope.specs.Held.{held};
 ghost use Rattle.envelope.specs.Listing.{last-line, listing, record-line, shown};
@@ -34,7 +36,7 @@ fn add_record(text: &mut String, record: &Record) -> Result<(), AllocError>
 }
 
 fn add_last(text: &mut String, count: usize, fault: Option<Fault>) -> Result<(), AllocError>
-    ensures { λ r. ⌜ made r (λ _. string-bytes (now (text .exit)) ≡ string-bytes (now (text .entry)) ++ last-line count fault) ⌝ }
+    ensures { λ r. ⌜ made r (λ _. string-bytes (now (text .exit)) ≡ string-bytes (now (text .entry)) ++ last-line count (mapped told fault)) ⌝ }
 {
     let written = match fault {
         None => writeln!(text, "records {count}"),

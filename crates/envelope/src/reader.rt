@@ -3,6 +3,7 @@ ghost use mathlib.Core.Path.{_≡_};
 ghost use Prim.Native.Nat.{_+_, _^_, _<_};
 ghost use denote.Ref.{now};
 ghost use lib.ListN.{drop, length};
+ghost use Rattle.fault.specs.Numbers.{told};
 ghost use Rattle.envelope.specs.Reading.{answered, fault-at, next-at, taken};
 use crate::kind::Kind;
 use crate::record::Part;
@@ -20,8 +21,8 @@ pub struct Reader<'a> {
 }
 
 // A fault of the envelope itself.
-pub fn fault_at(refusal: Refusal, place: usize) -> Fault
-    ensures { λ r. ⌜ r ≡ fault-at refusal place ⌝ }
+pub(crate) fn fault_at(refusal: Refusal, place: usize) -> Fault
+    ensures { λ r. ⌜ told r ≡ fault-at refusal place ⌝ }
 {
     Fault { refusal, origin: Origin::Envelope, place }
 }

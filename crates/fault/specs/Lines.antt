@@ -3,10 +3,9 @@ use mathlib.Core.List.{List, _++_}
 use Prim.Native.Nat.{ℕ}
 use lib.Chars.{codes}
 use Rattle.std.specs.Written.{decimal}
-use Rattle.fault.specs.declared.Fault.{Fault}
-use Rattle.fault.specs.Numbers.{number, letter}
+use Rattle.fault.specs.Numbers.{Told}
 
 -- as in `refusal 13 layer E place 5`, with no line feed
-abbrev pub refusal-line : Fault → List ℕ
+abbrev pub refusal-line : Told → List ℕ
 refusal-line f =
-    codes "refusal " ++ (decimal (number (f .refusal)) ++ (codes " layer " ++ (letter (f .origin) ++ (codes " place " ++ decimal (f .place)))))
+    codes "refusal " ++ (decimal (f .number) ++ (codes " layer " ++ (f .letter ++ (codes " place " ++ decimal (f .place)))))

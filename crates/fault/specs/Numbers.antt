@@ -1,7 +1,8 @@
--- The number of each refusal, and the letter of each origin. Assumes nothing.
+-- A fault by its number, the letter of its origin, and its place. Assumes nothing.
 use mathlib.Core.List.{List}
 use Prim.Native.Nat.{ℕ}
 use lib.Chars.{codes}
+use Rattle.fault.specs.declared.Fault.{Fault}
 use Rattle.fault.specs.declared.Origin.{Origin}
 use Rattle.fault.specs.declared.Origin.the-variants.{Envelope, Scheme}
 use Rattle.fault.specs.declared.Refusal.{Refusal}
@@ -27,3 +28,11 @@ number NotOneCouple = 14
 abbrev pub letter : Origin → List ℕ
 letter Envelope = codes "E"
 letter Scheme = codes "S"
+
+pub record Told : Type 0 where
+  pub number : ℕ
+  pub letter : List ℕ
+  pub place : ℕ
+
+abbrev pub told : Fault → Told
+told f = record { number = number (f .refusal); letter = letter (f .origin); place = f .place }

@@ -2,7 +2,7 @@
 ghost use mathlib.Core.Path.{_≡_};
 ghost use Rattle.std.specs.declared.option.Option.the-variants.{Some};
 ghost use Rattle.fault.specs.Lines.{refusal-line};
-ghost use Rattle.fault.specs.Numbers.{letter, number};
+ghost use Rattle.fault.specs.Numbers.{letter, number, told};
 use std::fmt;
 
 // Why a call refuses. The calls and their conditions are listed in docs/REFUSALS.md.
@@ -59,12 +59,27 @@ pub struct Fault {
 }
 
 pub impl fmt::Display for Fault as FaultDisplay {
-    ghost shown = { λ f. Some (refusal-line f) };
+    ghost shown = { λ f. Some (refusal-line (told f)) };
 
     fn fmt<W: fmt::Write>(&self, f: &mut fmt::Formatter<W>) -> fmt::Result {
         let number = self.refusal.number();
         let letter = self.origin.letter();
         let place = self.place;
         write!(f, "refusal {number} layer {letter} place {place}")
+    }
+}
+
+#[cfg(test)]
+mod tests {
+    use super::*;
+    use std::test::*;
+
+    #[test]
+    fn a_fault_is_one_line(rt: LibcRuntime) -> Result<(), Fail> {
+        let heap = rt.alloc();
+        let fault = Fault { refusal: Refusal::BodyCutShort, origin: Origin::Envelope, place: 5 };
+        check_eq(format!(heap, "{fault}")?.as_str(), "refusal 13 layer E place 5")?;
+        let fault = Fault { refusal: Refusal::SecretLength, origin: Origin::Scheme, place: usize::MAX };
+        check_eq(format!(heap, "{fault}")?.as_str(), "refusal 1 layer S place 18446744073709551615")
     }
 }

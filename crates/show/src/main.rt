@@ -25,3 +25,51 @@ fn main(rt: LibcRuntime) -> io::Result<()> {
     let text = show(heap, input.as_slice())?;
     rt.write_all(text.as_bytes())
 }
+
+#[cfg(test)]
+mod tests {
+    use super::read_input;
+    use envelope::listing::show;
+    use std::io;
+    use std::io::Read;
+    use std::test::*;
+
+    // Gives as many bytes as are asked for, a few at a time, and then fails or ends.
+    #[derive(Drop)]
+    struct Source {
+        left: usize,
+        fails: bool,
+    }
+
+    impl Read for Source as SourceRead {
+        fn read(&mut self, buf: &mut [u8]) -> io::Result<usize> {
+            if self.left == 0 && self.fails {
+                return Err(io::Error::other("torn tape"));
+            }
+            let count = buf.len().min(self.left).min(1000);
+            self.left -= count;
+            Ok(count)
+        }
+    }
+
+    #[test]
+    fn one_byte_too_many_is_read_and_no_more(rt: LibcRuntime) -> Result<(), Fail> {
+        let heap = rt.alloc();
+        for (given, kept) in [(0, 0), (1, 1), (8191, 8191), (8192, 8192), (8193, 8193), (8194, 8193), (1000000, 8193)] {
+            let input = read_input(heap, Source { left: given, fails: false })?;
+            check_eq(input.len(), kept)?;
+            let is_too_long = show(heap, input.as_slice())?.as_str() == "file too long\n";
+            check_eq(is_too_long, given > 8192)?;
+        }
+        Ok(())
+    }
+
+    #[test]
+    fn a_failed_read_is_an_error(rt: LibcRuntime) -> Result<(), Fail> {
+        let heap = rt.alloc();
+        check(read_input(heap, Source { left: 0, fails: true }).is_err())?;
+        check(read_input(heap, Source { left: 5000, fails: true }).is_err())?;
+        // what lies behind the limit is not read
+        check(read_input(heap, Source { left: 8193, fails: true }).is_ok())
+    }
+}

@@ -2,6 +2,7 @@ use mathlib.Core.Path.{refl, ap, _∙_}
 use Rattle.std.proofs.shelf.Results.{err-from-errBy}
 use Rattle.std.specs.declared.result.Result.the-variants.{Err}
 use Rattle.std.specs.Options.{okOr}
+use Rattle.fault.specs.Numbers.{told}
 use Rattle.envelope.proofs.Judgements.{answers, verdict-or}
 use Rattle.envelope.proofs.Readings.{begun, took, shorter, one-more, ended, stopped}
 use Rattle.envelope.specs.Judging.{verdict, couple-of}
@@ -14,7 +15,7 @@ pub returns-in-Break-record : need.returns-in-Break-record
 returns-in-Break-record c =
     let back = err-from-errBy (c .from-residual .result) (c .from-residual .ensures .1) in
     let read = stopped (c .loop-record .inv .sofar) _ (c .in-Break-record .ensures tt .answers) in
-    let both = answers _ _ _ read (ap verdict (back .1) ∙ ap Err (back .2)) in
+    let both = answers _ _ _ read (ap verdict (back .1) ∙ ap (λ f. Err (told f)) (back .2)) in
     record { judges = both .0; exact = both .1 }
 
 pub loop-record-less : need.loop-record-less

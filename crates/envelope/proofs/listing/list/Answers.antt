@@ -1,6 +1,8 @@
 use mathlib.Core.Path.{ap, sym, _∙_}
 use mathlib.Core.List.{map, _++_}
 use lib.ListN.{length}
+use Rattle.std.specs.Options.{mapped}
+use Rattle.fault.specs.Numbers.{told}
 use Rattle.envelope.proofs.Listings.{line-more, line-last}
 use Rattle.envelope.specs.Held.{held}
 use Rattle.envelope.specs.Listing.{head-line, listing}
@@ -16,4 +18,4 @@ returns c =
     let items = c .deref-record-items .ensures .value in
     let count = c .len .ensures ∙ all .ok .0 ∙ ap length (sym items) in
     line-last head-line _ _ (c .loop-record .inv) _ _ (c .loop-record-test .left) count (c .in-Continue-add-last .ensures tt)
-    ∙ ap (λ rs. listing (record { entries = map entry rs; fault = c .args .reading .now .fault })) items
+    ∙ ap (λ rs. listing (record { entries = map entry rs; fault = mapped told (c .args .reading .now .fault) })) items
