@@ -60,13 +60,13 @@ record From (place : ℕ) (bytes : List ℕ) (o : Outcome) : Type 0 where
   placed : Placed place (o .entries)
   whole : o .fault ≡ None → joined written (o .entries) ≡ bytes
   stopped : (f : Told) → o .fault ≡ Some f
-    → (left : List ℕ) × (joined written (o .entries) ++ left ≡ bytes) × (f .place ≡ place + length (joined written (o .entries))) × (f .letter ≡ letter Envelope) × Stands (f .number) left
+      → (left : List ℕ) × (joined written (o .entries) ++ left ≡ bytes) × (f .place ≡ place + length (joined written (o .entries))) × (f .letter ≡ letter Envelope) × Stands (f .number) left
 
 none : (place : ℕ) → From place [] (record { entries = []; fault = None })
 none place = record { placed = tt; whole = λ e. refl; stopped = λ f e. absurd (let z : _≡_ {A = ℕ} 0 1 = cc in omega arith) }
 
 after : (place b : ℕ) (bytes : List ℕ) (x : Next) (o : Outcome) → First place b bytes x
-  → (length (drop (taken x) (b ∷ bytes)) ≤ length bytes → From (place + taken x) (drop (taken x) (b ∷ bytes)) o) → From place (b ∷ bytes) (continued x o)
+    → (length (drop (taken x) (b ∷ bytes)) ≤ length bytes → From (place + taken x) (drop (taken x) (b ∷ bytes)) o) → From place (b ∷ bytes) (continued x o)
 after place b bytes _ o (whole k is long) less =
     let body : List ℕ = take (body-length k) bytes in
     let more : List ℕ = joined written (o .entries) in
@@ -77,8 +77,7 @@ after place b bytes _ o (whole k is long) less =
       placed = (refl, size, next .placed);
       whole = λ f. (λ i. is i ∷ (body ++ next .whole f i)) ∙ ap (λ l. b ∷ l) split;
       stopped = λ f e.
-          let s = next .stopped f e in
-          (
+          let s = next .stopped f e in (
             s .0,
             (λ i. is i ∷ (append-assoc body more (s .0) ∙ ap (λ l. body ++ l) (s .1) ∙ split) i),
             omega (arith, s .2, length-append body more),
@@ -110,7 +109,7 @@ again (suc n) place (e ∷ es) p h =
     let more : List ℕ = joined written es in
     let size : length (e .body ++ more) ≡ length (e .body) + length more = length-append (e .body) more in
     let known : next-at place (joined written (e ∷ es)) ≡ Ok (Some e) =
-        rw (kind-of-byte (e .kind), le-ltb (length (e .body ++ more)) (body-length (e .kind)) (omega (arith, p .1)), take-at (e .body) more (body-length (e .kind)) (p .1), ← p .0) refl in
+    rw (kind-of-byte (e .kind), le-ltb (length (e .body ++ more)) (body-length (e .kind)) (omega (arith, p .1)), take-at (e .body) more (body-length (e .kind)) (p .1), ← p .0) refl in
     let left : drop (length (e .body)) (e .body ++ more) ≡ more = drop-at (e .body) more (length (e .body)) refl in
     rw known (ap (λ l. continued (Ok (Some e)) (reading-within n (place + length (written e)) l)) left ∙ ap (continued (Ok (Some e))) (again n (place + length (written e)) es (p .2) (omega arith)))
 

@@ -2,4 +2,3 @@ pub mod Steps
 pub mod Readings
 pub mod Laws
 pub mod Judgements
-pub mod Listings

@@ -16,7 +16,7 @@ use Rattle.envelope.specs.Reading.{Next, Outcome, next-at, taken, continued, r
 
 -- after a step fewer bytes are left, so two ways to read on are one if they agree there
 after-step : (x : Next) (place b : ℕ) (bytes : List ℕ) (F G : ℕ → List ℕ → Outcome) → ((p : ℕ) (left : List ℕ) → length left ≤ length bytes → F p left ≡ G p left)
-  → continued x (F (place + taken x) (drop (taken x) (b ∷ bytes))) ≡ continued x (G (place + taken x) (drop (taken x) (b ∷ bytes)))
+    → continued x (F (place + taken x) (drop (taken x) (b ∷ bytes))) ≡ continued x (G (place + taken x) (drop (taken x) (b ∷ bytes)))
 after-step (Ok (Some e)) place b bytes F G same =
     ap (continued (Ok (Some e))) (same _ _ (omega (arith, length-drop (length (e .body)) bytes)))
 after-step (Ok None) place b bytes F G same = refl
@@ -53,7 +53,7 @@ begun bytes es place left none start all = record { is = λ i. preceded (sym non
 
 -- the next step of the reading
 then-on : {bytes : List ℕ} {es : List Entry} {place : ℕ} {left : List ℕ} → Sofar bytes es place left → (x : Next) → x ≡ next-at place left
-  → reading bytes ≡ preceded es (continued x (reading-from (place + taken x) (drop (taken x) left)))
+    → reading bytes ≡ preceded es (continued x (reading-from (place + taken x) (drop (taken x) left)))
 then-on {bytes} {es} {place} {left} before x e =
     before .is ∙ ap (preceded es) (step place left) ∙ ap (λ y. preceded es (continued y (reading-from (place + taken y) (drop (taken y) left)))) (sym e)
 
@@ -71,7 +71,7 @@ pub record Took (place : ℕ) (left : List ℕ) (e : Entry) (next : ℕ) (rest :
 
 -- as `next` promises it
 pub took : {place next : ℕ} {left rest : List ℕ} (o : Option Record) (r : Record) → o ≡ Some r → answered (Ok o) ≡ next-at place left → next ≡ place + taken (answered (Ok o)) → rest ≡ drop (taken (answered (Ok o))) left
-  → Took place left (entry r) next rest
+    → Took place left (entry r) next rest
 took o r is answers at after = record { found = rw is at answers; at = rw is at at; after = rw is at after }
 
 module _ {place next : ℕ} {left rest : List ℕ} {e : Entry} (one : Took place left e next rest) where
@@ -88,7 +88,7 @@ module _ {place next : ℕ} {left rest : List ℕ} {e : Entry} (one : Took place
       let on : Outcome = reading-from (place + length (written e)) (drop (length (written e)) left) in
       record {
         is =
-          then-on before (Ok (Some e)) (one .found)
-          ∙ ap (λ xs. record { entries = xs; fault = on .fault }) (sym (append-assoc es (e ∷ []) (on .entries)))
-          ∙ (λ i. preceded (sym grown i) (reading-from (sym (one .at) i) (sym (one .after) i)));
+            then-on before (Ok (Some e)) (one .found)
+            ∙ ap (λ xs. record { entries = xs; fault = on .fault }) (sym (append-assoc es (e ∷ []) (on .entries)))
+            ∙ (λ i. preceded (sym grown i) (reading-from (sym (one .at) i) (sym (one .after) i)));
       }

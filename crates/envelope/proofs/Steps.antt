@@ -22,14 +22,14 @@ pub record Cut (all : List ℕ) (k : Kind) (body rest : List ℕ) : Type 0 where
 
 -- as a slice pattern and `split_at` give the parts
 pub cut-from : (all : List ℕ) (k : Kind) (n : ℕ) (body rest : List ℕ) → n ≡ body-length k → Some k ≡ kind-of (getD all 0 0)
-  → n ≤ length (take (length all - 1) (drop 1 all)) → body ≡ take n (take (length all - 1) (drop 1 all)) → rest ≡ drop n (take (length all - 1) (drop 1 all))
-  → Cut all k body rest
+    → n ≤ length (take (length all - 1) (drop 1 all)) → body ≡ take n (take (length all - 1) (drop 1 all)) → rest ≡ drop n (take (length all - 1) (drop 1 all))
+    → Cut all k body rest
 cut-from all k n body rest is known long front back =
     let e = take-rest all 1 in
     record { known = known; long = rw (is, e) at long; front = rw (is, e) at front; back = rw (is, e) at back }
 
 pub found : (place : ℕ) (all : List ℕ) (k : Kind) (body rest : List ℕ) → Cut all k body rest
-  → _≡_ {A = Next} (Ok (Some (record { place = place; kind = k; body = body }))) (next-at place all)
+    → _≡_ {A = Next} (Ok (Some (record { place = place; kind = k; body = body }))) (next-at place all)
 found place [] k body rest h = absurd (let k = h .known in let z : _≡_ {A = ℕ} 0 1 = cc in omega arith)
 found place (b ∷ bytes) k body rest h =
     rw (← h .known, h .front) (let l = h .long in grind (arith, tells))

@@ -3,6 +3,5 @@ pub mod Entries
 pub mod Reading
 pub mod Law
 pub mod Held
-pub mod Listing
 pub mod Judging
 pub mod Tallies

@@ -30,8 +30,8 @@ Next = Result (Option Entry) Told
 abbrev pub next-body : ℕ → Kind → List ℕ → Next
 next-body place k bytes =
     cond (ltb (length bytes) (body-length k))
-      (Err (fault-at BodyCutShort place))
-      (Ok (Some (record { place = place; kind = k; body = take (body-length k) bytes })))
+    (Err (fault-at BodyCutShort place))
+    (Ok (Some (record { place = place; kind = k; body = take (body-length k) bytes })))
 
 abbrev pub next-kind : ℕ → Option Kind → List ℕ → Next
 next-kind place None bytes = Err (fault-at UnknownKind place)

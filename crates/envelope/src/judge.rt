@@ -19,5 +19,7 @@ pub fn judge<'a>(envelope: &'a [u8]) -> Result<Couple<'a>, Fault>
     while let Some(record) = reader.next()? {
         tally.add(record);
     }
-    tally.couple().ok_or(fault_at(Refusal::NotOneCouple, envelope.len()))
+    tally
+        .couple()
+        .ok_or(fault_at(Refusal::NotOneCouple, envelope.len()))
 }

@@ -2,7 +2,6 @@
 pub mod couple;
 pub mod judge;
 pub mod kind;
-pub mod listing;
 pub mod reader;
 pub mod reading;
 pub mod record;

@@ -4,7 +4,8 @@ ghost use Prim.Native.Nat.{_+_, _^_, _<_};
 ghost use denote.Ref.{now};
 ghost use lib.ListN.{drop, length};
 ghost use Rattle.fault.specs.Numbers.{told};
-ghost use Rattle.envelope.specs.Reading.{answered, fault-at, next-at, taken};
+ghost use Rattle.envelope.specs.Law.{Faithful};
+ghost use Rattle.envelope.specs.Reading.{answered, fault-at, next-at, reading, taken};
 use crate::kind::Kind;
 use crate::record::Part;
 use crate::record::Record;
@@ -24,15 +25,24 @@ pub struct Reader<'a> {
 pub(crate) fn fault_at(refusal: Refusal, place: usize) -> Fault
     ensures { λ r. ⌜ told r ≡ fault-at refusal place ⌝ }
 {
-    Fault { refusal, origin: Origin::Envelope, place }
+    Fault {
+        refusal,
+        origin: Origin::Envelope,
+        place,
+    }
 }
 
 impl<'a> Reader<'a> {
+    // A reader at the first byte. What it will give, record by record, is faithful to the envelope.
     pub fn new(envelope: &'a [u8]) -> Reader<'a>
         ensures place { λ r. ⌜ r .place ≡ 0 ⌝ }
         ensures rest { λ r. ⌜ now (r .rest) ≡ now (envelope .entry) ⌝ }
+        ensures faithful { λ _. ⌜ Faithful (now (envelope .entry)) (reading (now (envelope .entry))) ⌝ }
     {
-        Reader { place: 0, rest: envelope }
+        Reader {
+            place: 0,
+            rest: envelope,
+        }
     }
 
     // The next record, or `None` at the end. A fault leaves the reader where it is.

@@ -6,14 +6,12 @@ ghost use Rattle.envelope.specs.Law.{Faithful};
 ghost use Rattle.envelope.specs.Reading.{reading};
 use crate::reader::Reader;
 use crate::record::Record;
-use crate::record::RecordDebug;
 use fault::Fault;
-use fault::FaultDebug;
 use std::alloc::AllocError;
 use std::alloc::Global;
 
 // The records of an envelope in their order, and the fault that ended the reading, if one did.
-#[derive(Debug, Drop)]
+#[derive(Drop)]
 pub struct Reading<'a> {
     pub records: Vec<Record<'a>>,
     pub fault: Option<Fault>,
@@ -28,10 +26,16 @@ pub fn read<'a>(heap: Global, envelope: &'a [u8]) -> Result<Reading<'a>, AllocEr
     loop {
         let next = match reader.next() {
             Ok(next) => next,
-            Err(fault) => return Ok(Reading { records, fault: Some(fault) }),
+            Err(fault) => return Ok(Reading {
+                records,
+                fault: Some(fault),
+            }),
         };
         let Some(record) = next else {
-            return Ok(Reading { records, fault: None });
+            return Ok(Reading {
+                records,
+                fault: None,
+            });
         };
         records.push(record)?;
     }

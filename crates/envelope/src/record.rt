@@ -3,16 +3,15 @@ ghost use mathlib.Core.Path.{_≡_};
 ghost use Rattle.envelope.specs.Entries.{Entry, entry};
 use crate::kind::Kind;
 use crate::kind::Set;
-use crate::kind::SetDebug;
 
 // The body of a record, borrowed from the envelope, and the place of its kind byte.
-#[derive(Clone, Copy, Debug)]
+#[derive(Clone, Copy)]
 pub struct Part<'a> {
     pub place: usize,
     pub bytes: &'a [u8],
 }
 
-#[derive(Clone, Copy, Debug)]
+#[derive(Clone, Copy)]
 pub enum Record<'a> {
     Key(Set, Part<'a>),
     Signature(Set, Part<'a>),

@@ -42,7 +42,11 @@ impl<'a> Tally<'a> {
     pub fn new() -> Tally<'a>
         ensures { λ r. ⌜ Tallies r [] ⌝ }
     {
-        Tally { keys: Seen::Nothing, signatures: Seen::Nothing, days: Seen::Nothing }
+        Tally {
+            keys: Seen::Nothing,
+            signatures: Seen::Nothing,
+            days: Seen::Nothing,
+        }
     }
 
     pub fn add(&mut self, record: Record<'a>)
@@ -59,8 +63,13 @@ impl<'a> Tally<'a> {
         ensures { λ r. ⌜ ((es : List Entry) → Tallies (now (self .entry)) es → mapped couple-items r ≡ couple-of es) ⌝ }
     {
         match (self.keys, self.signatures, self.days) {
-            (Seen::One((set, key)), Seen::One((other, signature)), Seen::Nothing | Seen::One(_)) if set == other => {
-                Some(Couple { set, key, signature })
+            (Seen::One((set, key)), Seen::One((other, signature)), Seen::Nothing | Seen::One(_))
+                if set == other => {
+                Some(Couple {
+                    set,
+                    key,
+                    signature,
+                })
             }
             _ => None,
         }

@@ -5,9 +5,9 @@ mod tests {
     use envelope::kind::Set;
     use envelope::kind::SetDebug;
     use envelope::kind::SetPartialEq;
-    use envelope::listing::LONGEST;
-    use envelope::listing::show;
     use fault::FaultDisplay;
+    use listing::LONGEST;
+    use listing::show;
     use std::alloc::AllocError;
     use std::alloc::Global;
     use std::test::*;
@@ -20,20 +20,57 @@ mod tests {
         fill: u8,
     }
 
-    const DAY: Raw = Raw { kind: 5, length: 4, fill: 12 };
-    const KEY: Raw = Raw { kind: 1, length: 32, fill: 170 };
-    const OTHER_KEY: Raw = Raw { kind: 1, length: 32, fill: 171 };
-    const SIGNATURE: Raw = Raw { kind: 2, length: 5904, fill: 187 };
-    const KEY_R: Raw = Raw { kind: 3, length: 17, fill: 204 };
-    const SIGNATURE_R: Raw = Raw { kind: 4, length: 648, fill: 221 };
+    const DAY: Raw = Raw {
+        kind: 5,
+        length: 4,
+        fill: 12,
+    };
+
+    const KEY: Raw = Raw {
+        kind: 1,
+        length: 32,
+        fill: 170,
+    };
+
+    const OTHER_KEY: Raw = Raw {
+        kind: 1,
+        length: 32,
+        fill: 171,
+    };
+
+    const SIGNATURE: Raw = Raw {
+        kind: 2,
+        length: 5904,
+        fill: 187,
+    };
+
+    const KEY_R: Raw = Raw {
+        kind: 3,
+        length: 17,
+        fill: 204,
+    };
+
+    const SIGNATURE_R: Raw = Raw {
+        kind: 4,
+        length: 648,
+        fill: 221,
+    };
 
     // A lone byte, which may or may not be a kind.
     const fn lone(kind: u8) -> Raw {
-        Raw { kind, length: 0, fill: 0 }
+        Raw {
+            kind,
+            length: 0,
+            fill: 0,
+        }
     }
 
     const fn short(whole: Raw) -> Raw {
-        Raw { kind: whole.kind, length: whole.length.saturating_sub(1), fill: whole.fill }
+        Raw {
+            kind: whole.kind,
+            length: whole.length.saturating_sub(1),
+            fill: whole.fill,
+        }
     }
 
     fn written(heap: Global, records: &[Raw]) -> Result<Vec<u8>, AllocError> {
@@ -72,8 +109,16 @@ mod tests {
         for kind in [0, 6, 255] {
             lists(heap, &[lone(kind)], "refusal 12 layer E place 0")?;
             lists(heap, &[lone(kind), DAY], "refusal 12 layer E place 0")?;
-            lists(heap, &[DAY, lone(kind), KEY_R], "0 5 4\nrefusal 12 layer E place 5")?;
-            lists(heap, &[DAY, KEY_R, lone(kind)], "0 5 4\n5 3 17\nrefusal 12 layer E place 23")?;
+            lists(
+                heap,
+                &[DAY, lone(kind), KEY_R],
+                "0 5 4\nrefusal 12 layer E place 5",
+            )?;
+            lists(
+                heap,
+                &[DAY, KEY_R, lone(kind)],
+                "0 5 4\n5 3 17\nrefusal 12 layer E place 23",
+            )?;
         }
         Ok(())
     }
@@ -84,8 +129,16 @@ mod tests {
         for whole in [KEY, SIGNATURE, KEY_R, SIGNATURE_R, DAY] {
             lists(heap, &[lone(whole.kind)], "refusal 13 layer E place 0")?;
             lists(heap, &[short(whole)], "refusal 13 layer E place 0")?;
-            lists(heap, &[DAY, lone(whole.kind)], "0 5 4\nrefusal 13 layer E place 5")?;
-            lists(heap, &[DAY, short(whole)], "0 5 4\nrefusal 13 layer E place 5")?;
+            lists(
+                heap,
+                &[DAY, lone(whole.kind)],
+                "0 5 4\nrefusal 13 layer E place 5",
+            )?;
+            lists(
+                heap,
+                &[DAY, short(whole)],
+                "0 5 4\nrefusal 13 layer E place 5",
+            )?;
         }
         Ok(())
     }
@@ -105,8 +158,14 @@ mod tests {
         let mut bytes = longest(heap)?;
         check_eq(bytes.len(), LONGEST)?;
         let text = show(heap, bytes.as_slice())?;
-        check(text.as_str().starts_with("place kind length\n0 2 5904\n5905 4 648\n"))?;
-        check(text.as_str().ends_with("\n8182 5 4\n8187 5 4\nrecords 72\n"))?;
+        check(
+            text.as_str()
+                .starts_with("place kind length\n0 2 5904\n5905 4 648\n"),
+        )?;
+        check(
+            text.as_str()
+                .ends_with("\n8182 5 4\n8187 5 4\nrecords 72\n"),
+        )?;
         bytes.push(5)?;
         check_eq(bytes.len(), 8193)?;
         check_eq(show(heap, bytes.as_slice())?.as_str(), "file too long\n")
@@ -115,13 +174,24 @@ mod tests {
     #[test]
     fn length_is_looked_at_before_kinds(rt: LibcRuntime) -> Result<(), Fail> {
         let heap = rt.alloc();
-        let garbage = Raw { kind: 0, length: 8191, fill: 7 };
+        let garbage = Raw {
+            kind: 0,
+            length: 8191,
+            fill: 7,
+        };
         lists(heap, &[garbage], "refusal 12 layer E place 0")?;
         let bytes = written(heap, &[garbage, lone(0)])?;
         check_eq(show(heap, bytes.as_slice())?.as_str(), "file too long\n")
     }
 
-    fn accepts(heap: Global, records: &[Raw], set: Set, key: Raw, signature: Raw, place: usize) -> Result<(), Fail> {
+    fn accepts(
+        heap: Global,
+        records: &[Raw],
+        set: Set,
+        key: Raw,
+        signature: Raw,
+        place: usize,
+    ) -> Result<(), Fail> {
         let bytes = written(heap, records)?;
         let Ok(couple) = judge(bytes.as_slice()) else {
             return Err(Fail::new("refused"));
@@ -153,8 +223,22 @@ mod tests {
         accepts(heap, &[DAY, KEY, SIGNATURE], Set::S16, KEY, SIGNATURE, 38)?;
         accepts(heap, &[KEY, DAY, SIGNATURE], Set::S16, KEY, SIGNATURE, 38)?;
         accepts(heap, &[KEY, SIGNATURE, DAY], Set::S16, KEY, SIGNATURE, 33)?;
-        accepts(heap, &[KEY_R, SIGNATURE_R], Set::Rehearsal, KEY_R, SIGNATURE_R, 18)?;
-        accepts(heap, &[SIGNATURE_R, DAY, KEY_R], Set::Rehearsal, KEY_R, SIGNATURE_R, 0)
+        accepts(
+            heap,
+            &[KEY_R, SIGNATURE_R],
+            Set::Rehearsal,
+            KEY_R,
+            SIGNATURE_R,
+            18,
+        )?;
+        accepts(
+            heap,
+            &[SIGNATURE_R, DAY, KEY_R],
+            Set::Rehearsal,
+            KEY_R,
+            SIGNATURE_R,
+            0,
+        )
     }
 
     #[test]
@@ -166,25 +250,65 @@ mod tests {
         refuses(heap, &[KEY_R, DAY], "refusal 14 layer E place 23")?;
         refuses(heap, &[DAY], "refusal 14 layer E place 5")?;
         // several keys or signatures, equal ones too
-        refuses(heap, &[KEY, OTHER_KEY, SIGNATURE], "refusal 14 layer E place 5971")?;
-        refuses(heap, &[KEY, KEY, SIGNATURE], "refusal 14 layer E place 5971")?;
-        refuses(heap, &[KEY_R, SIGNATURE_R, SIGNATURE_R], "refusal 14 layer E place 1316")?;
-        refuses(heap, &[KEY_R, KEY_R, KEY_R, SIGNATURE_R], "refusal 14 layer E place 703")?;
+        refuses(
+            heap,
+            &[KEY, OTHER_KEY, SIGNATURE],
+            "refusal 14 layer E place 5971",
+        )?;
+        refuses(
+            heap,
+            &[KEY, KEY, SIGNATURE],
+            "refusal 14 layer E place 5971",
+        )?;
+        refuses(
+            heap,
+            &[KEY_R, SIGNATURE_R, SIGNATURE_R],
+            "refusal 14 layer E place 1316",
+        )?;
+        refuses(
+            heap,
+            &[KEY_R, KEY_R, KEY_R, SIGNATURE_R],
+            "refusal 14 layer E place 703",
+        )?;
         // another set
         refuses(heap, &[KEY, SIGNATURE_R], "refusal 14 layer E place 682")?;
         refuses(heap, &[KEY_R, SIGNATURE], "refusal 14 layer E place 5923")?;
-        refuses(heap, &[KEY, SIGNATURE, KEY_R, SIGNATURE_R], "refusal 14 layer E place 6605")?;
-        refuses(heap, &[KEY, SIGNATURE, KEY_R], "refusal 14 layer E place 5956")?;
+        refuses(
+            heap,
+            &[KEY, SIGNATURE, KEY_R, SIGNATURE_R],
+            "refusal 14 layer E place 6605",
+        )?;
+        refuses(
+            heap,
+            &[KEY, SIGNATURE, KEY_R],
+            "refusal 14 layer E place 5956",
+        )?;
         // several days
-        refuses(heap, &[DAY, KEY_R, SIGNATURE_R, DAY], "refusal 14 layer E place 677")
+        refuses(
+            heap,
+            &[DAY, KEY_R, SIGNATURE_R, DAY],
+            "refusal 14 layer E place 677",
+        )
     }
 
     #[test]
     fn a_fault_of_the_reading_comes_before_a_missing_couple(rt: LibcRuntime) -> Result<(), Fail> {
         let heap = rt.alloc();
-        refuses(heap, &[KEY_R, KEY_R, lone(0)], "refusal 12 layer E place 36")?;
-        refuses(heap, &[KEY_R, SIGNATURE_R, lone(6)], "refusal 12 layer E place 667")?;
+        refuses(
+            heap,
+            &[KEY_R, KEY_R, lone(0)],
+            "refusal 12 layer E place 36",
+        )?;
+        refuses(
+            heap,
+            &[KEY_R, SIGNATURE_R, lone(6)],
+            "refusal 12 layer E place 667",
+        )?;
         refuses(heap, &[DAY, DAY, short(KEY)], "refusal 13 layer E place 10")?;
-        refuses(heap, &[KEY_R, SIGNATURE_R, lone(5)], "refusal 13 layer E place 667")
+        refuses(
+            heap,
+            &[KEY_R, SIGNATURE_R, lone(5)],
+            "refusal 13 layer E place 667",
+        )
     }
 }

@@ -77,9 +77,23 @@ mod tests {
     #[test]
     fn a_fault_is_one_line(rt: LibcRuntime) -> Result<(), Fail> {
         let heap = rt.alloc();
-        let fault = Fault { refusal: Refusal::BodyCutShort, origin: Origin::Envelope, place: 5 };
-        check_eq(format!(heap, "{fault}")?.as_str(), "refusal 13 layer E place 5")?;
-        let fault = Fault { refusal: Refusal::SecretLength, origin: Origin::Scheme, place: usize::MAX };
-        check_eq(format!(heap, "{fault}")?.as_str(), "refusal 1 layer S place 18446744073709551615")
+        let fault = Fault {
+            refusal: Refusal::BodyCutShort,
+            origin: Origin::Envelope,
+            place: 5,
+        };
+        check_eq(
+            format!(heap, "{fault}")?.as_str(),
+            "refusal 13 layer E place 5",
+        )?;
+        let fault = Fault {
+            refusal: Refusal::SecretLength,
+            origin: Origin::Scheme,
+            place: usize::MAX,
+        };
+        check_eq(
+            format!(heap, "{fault}")?.as_str(),
+            "refusal 1 layer S place 18446744073709551615",
+        )
     }
 }

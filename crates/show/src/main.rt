@@ -1,6 +1,6 @@
 // Lists the envelope on standard input: place, kind and body length of each record.
-use envelope::listing::LONGEST;
-use envelope::listing::show;
+use listing::LONGEST;
+use listing::show;
 use std::alloc::Global;
 use std::io;
 use std::io::Read;
@@ -29,7 +29,7 @@ fn main(rt: LibcRuntime) -> io::Result<()> {
 #[cfg(test)]
 mod tests {
     use super::read_input;
-    use envelope::listing::show;
+    use listing::show;
     use std::io;
     use std::io::Read;
     use std::test::*;
@@ -55,8 +55,22 @@ mod tests {
     #[test]
     fn one_byte_too_many_is_read_and_no_more(rt: LibcRuntime) -> Result<(), Fail> {
         let heap = rt.alloc();
-        for (given, kept) in [(0, 0), (1, 1), (8191, 8191), (8192, 8192), (8193, 8193), (8194, 8193), (1000000, 8193)] {
-            let input = read_input(heap, Source { left: given, fails: false })?;
+        for (given, kept) in [
+            (0, 0),
+            (1, 1),
+            (8191, 8191),
+            (8192, 8192),
+            (8193, 8193),
+            (8194, 8193),
+            (1000000, 8193),
+        ] {
+            let input = read_input(
+                heap,
+                Source {
+                    left: given,
+                    fails: false,
+                },
+            )?;
             check_eq(input.len(), kept)?;
             let is_too_long = show(heap, input.as_slice())?.as_str() == "file too long\n";
             check_eq(is_too_long, given > 8192)?;
@@ -67,9 +81,27 @@ mod tests {
     #[test]
     fn a_failed_read_is_an_error(rt: LibcRuntime) -> Result<(), Fail> {
         let heap = rt.alloc();
-        check(read_input(heap, Source { left: 0, fails: true }).is_err())?;
-        check(read_input(heap, Source { left: 5000, fails: true }).is_err())?;
+        check(read_input(
+            heap,
+            Source {
+                left: 0,
+                fails: true,
+            },
+        ).is_err())?;
+        check(read_input(
+            heap,
+            Source {
+                left: 5000,
+                fails: true,
+            },
+        ).is_err())?;
         // what lies behind the limit is not read
-        check(read_input(heap, Source { left: 8193, fails: true }).is_ok())
+        check(read_input(
+            heap,
+            Source {
+                left: 8193,
+                fails: true,
+            },
+        ).is_ok())
     }
 }

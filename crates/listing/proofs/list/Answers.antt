@@ -3,11 +3,11 @@ use mathlib.Core.List.{map, _++_}
 use lib.ListN.{length}
 use Rattle.std.specs.Options.{mapped}
 use Rattle.fault.specs.Numbers.{told}
-use Rattle.envelope.proofs.Listings.{line-more, line-last}
+use Rattle.listing.proofs.Listings.{line-more, line-last}
 use Rattle.envelope.specs.Held.{held}
-use Rattle.envelope.specs.Listing.{head-line, listing}
+use Rattle.listing.specs.Listing.{head-line, listing}
 use Rattle.envelope.specs.Entries.{entry}
-use Rattle.envelope.proofs.listing.list.Needs as need
+use Rattle.listing.proofs.list.Needs as need
 
 pub loop-record-again : need.loop-record-again
 loop-record-again c = line-more head-line _ _ (c .loop-record .inv) _ (c .loop-record-test .taken) (c .in-Continue-add-record .ensures tt)
