@@ -14,7 +14,7 @@ use Rattle.std.specs.Joined.{joined}
 use Rattle.std.specs.Options.{okOr, mapped}
 use Rattle.fault.specs.declared.Fault.{Fault}
 use Rattle.fault.specs.declared.Refusal.the-variants.{NotOneCouple}
-use Rattle.fault.specs.Numbers.{letter, Told, told}
+use Rattle.fault.specs.Numbers.{Told, told}
 use Rattle.envelope.specs.declared.couple.Couple.{Couple}
 use Rattle.envelope.specs.declared.kind.Set.{Set}
 use Rattle.envelope.specs.declared.kind.Set.the-variants.{S16, Rehearsal}
@@ -22,7 +22,7 @@ use Rattle.envelope.specs.declared.tally.Seen.{Seen}
 use Rattle.envelope.specs.declared.tally.Seen.the-variants.{Nothing, One, Several}
 use Rattle.envelope.specs.declared.tally.Tally.{Tally}
 use Rattle.envelope.specs.Entries.{Entry}
-use Rattle.envelope.specs.Judging.{Item, keys, signatures, days, Couples, Checkable, same-set, only, coupled, couple-of, judged, judgement, Exact, Verdict, verdict, couple-items}
+use Rattle.envelope.specs.Judging.{Item, keys, signatures, days, Couples, same-set, only, coupled, couple-of, judged, judgement, Exact, Verdict, verdict, couple-items}
 use Rattle.envelope.specs.Law.{Faithful}
 use Rattle.envelope.specs.Reading.{Outcome, fault-at, reading}
 use Rattle.envelope.specs.Tallies.{Tallies, seen, more, each-seen}

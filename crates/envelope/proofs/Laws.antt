@@ -1,11 +1,11 @@
 -- The law of reading. Assumes nothing.
 use mathlib.Core.Path.{_≡_, refl, sym, ap, subst, _∙_}
 use mathlib.Core.Bool.{Bool, true, false, cond}
-use mathlib.Core.List.{List, [], _∷_, _++_, append-assoc, append-nil}
+use mathlib.Core.List.{List, [], _∷_, _++_, append-assoc}
 use mathlib.Core.Logic.{_⊎_, inl, inr, ⊎-elim}
-use Prim.Native.Nat.{ℕ, zero, suc, _+_, _-_, _≤_, _<_}
+use Prim.Native.Nat.{ℕ, zero, suc, _+_, _-_, _≤_}
 use native.Mathlib.Omega.{arith}
-use lib.Dec.{eqb, ltb}
+use lib.Dec.{eqb}
 use lib.ListN.{length, take, drop, length-drop, length-append, take-append-drop}
 use Rattle.std.proofs.shelf.Lists.{length-take-le, take-at, drop-at}
 use Rattle.std.proofs.shelf.Tests.{cases-lt, eqb-true, lt-ltb, le-ltb}
@@ -15,13 +15,13 @@ use Rattle.std.specs.declared.result.Result.the-variants.{Ok, Err}
 use Rattle.std.specs.Joined.{joined}
 use Rattle.fault.specs.declared.Origin.the-variants.{Envelope}
 use Rattle.fault.specs.declared.Refusal.the-variants.{UnknownKind, BodyCutShort}
-use Rattle.fault.specs.Numbers.{letter, Told, told}
+use Rattle.fault.specs.Numbers.{letter, Told}
 use Rattle.envelope.specs.declared.kind.Kind.{Kind}
 use Rattle.envelope.specs.declared.kind.Kind.the-variants.{Key, Signature, Day}
 use Rattle.envelope.specs.declared.kind.Set.the-variants.{S16, Rehearsal}
 use Rattle.envelope.specs.Entries.{Entry, written}
 use Rattle.envelope.specs.Kinds.{kind-byte, body-length, kind-of, kind-among, kinds}
-use Rattle.envelope.specs.Law.{Placed, Unknown, Short, Stands, Stopped, Faithful}
+use Rattle.envelope.specs.Law.{Placed, Stands, Faithful}
 use Rattle.envelope.specs.Reading.{Next, Outcome, next-at, next-kind, taken, continued, fault-at, reading-within, reading-from, reading}
 
 pub kind-of-byte : (k : Kind) → kind-of (kind-byte k) ≡ Some k

@@ -1,15 +1,13 @@
--- Readings step by step, and their law. Assumes nothing.
-use mathlib.Core.Path.{_≡_, refl, sym, ap, subst, _∙_}
+-- Readings step by step, as a loop over `next` takes them. Assumes nothing.
+use mathlib.Core.Path.{_≡_, refl, sym, ap, _∙_}
 use mathlib.Core.List.{List, [], _∷_, _++_, append-assoc, append-nil}
 use Prim.Native.Nat.{ℕ, zero, suc, _+_, _-_, _≤_, _<_}
 use native.Mathlib.Omega.{arith}
-use lib.ListN.{length, getD, take, drop, length-drop, length-append}
+use lib.ListN.{length, drop, length-drop}
 use Rattle.std.specs.declared.option.Option.{Option}
 use Rattle.std.specs.declared.option.Option.the-variants.{Some, None}
 use Rattle.std.specs.declared.result.Result.the-variants.{Ok, Err}
-use Rattle.std.specs.Joined.{joined}
-use Rattle.fault.specs.Numbers.{letter, Told, told}
-use Rattle.envelope.specs.declared.kind.Kind.{Kind}
+use Rattle.fault.specs.Numbers.{Told}
 use Rattle.envelope.specs.declared.record.Record.{Record}
 use Rattle.envelope.specs.Entries.{Entry, entry, written}
 use Rattle.envelope.specs.Reading.{Next, Outcome, next-at, taken, continued, reading-within, reading-from, reading, answered}

@@ -21,7 +21,7 @@ use Rattle.envelope.specs.declared.kind.Set.{Set}
 use Rattle.envelope.specs.declared.kind.Set.the-variants.{S16, Rehearsal}
 use Rattle.envelope.specs.Entries.{Entry, written}
 use Rattle.envelope.specs.Law.{Placed}
-use Rattle.envelope.specs.Reading.{Outcome, fault-at, reading}
+use Rattle.envelope.specs.Reading.{fault-at, reading}
 
 -- a key or a signature of a set
 pub record Item : Type 0 where
@@ -79,7 +79,7 @@ key-item c = record { set = c .set; place = c .key .place; bytes = c .key .bytes
 abbrev pub signature-item : Couple → Item
 signature-item c = record { set = c .set; place = c .signature .place; bytes = c .signature .bytes .now }
 
--- the answer of the judge is a key and a signature, or a fault
+-- what the judge answers: a key and a signature, or a fault
 abbrev pub Verdict : Type 0
 Verdict = Result (Item × Item) Told
 

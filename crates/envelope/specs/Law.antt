@@ -27,12 +27,12 @@ Unknown b = (k : Kind) → kind-byte k ≡ b → ⊥
 abbrev pub Short : ℕ → List ℕ → Type 0
 Short b left = (k : Kind) × (kind-byte k ≡ b) × (length left < body-length k)
 
--- what stands where a reading is refused with a number
+-- what stands where a reading is refused: with the one number an unknown kind, with the other a body cut short
 abbrev pub Stands : ℕ → List ℕ → Type 0
 Stands n [] = ⊥
 Stands n (b ∷ left) = ((n ≡ number UnknownKind) × Unknown b) ⊎ ((n ≡ number BodyCutShort) × Short b left)
 
--- the bytes before a fault's place are the records before it, written out one after the other
+-- a reading that stopped at a fault
 pub record Stopped (bytes : List ℕ) (es : List Entry) (f : Told) : Type 0 where
   pub origin : f .letter ≡ letter Envelope
   pub before : joined written es ≡ take (f .place) bytes
@@ -42,6 +42,7 @@ pub record Faithful (bytes : List ℕ) (o : Outcome) : Type 0 where
   pub placed : Placed 0 (o .entries)
   -- where there is no fault, the records written out one after the other are the envelope
   pub whole : o .fault ≡ None → joined written (o .entries) ≡ bytes
+  -- where there is one, the bytes before its place are the records, and what stands there cannot be read
   pub stopped : (f : Told) → o .fault ≡ Some f → Stopped bytes (o .entries) f
-  -- and an envelope that can be written out of records can be read in no other way
+  -- an envelope that can be written out of records is read as these, and in no other way
   pub only : (es : List Entry) → Placed 0 es → joined written es ≡ bytes → (o .entries ≡ es) × (o .fault ≡ None)

@@ -1,7 +1,6 @@
 -- What a tally of records stands for. Assumes nothing.
 use mathlib.Core.Path.{_≡_}
 use mathlib.Core.List.{List, [], _∷_}
-use Prim.Native.Nat.{ℕ}
 use Rattle.envelope.specs.declared.kind.Kind.the-variants.{Day}
 use Rattle.envelope.specs.declared.kind.Set.{Set}
 use Rattle.envelope.specs.declared.record.Part.{Part}

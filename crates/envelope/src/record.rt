@@ -1,6 +1,6 @@
 // Records: parts of an envelope with their place.
 ghost use mathlib.Core.Path.{_≡_};
-ghost use Rattle.envelope.specs.Entries.{Entry, entry};
+ghost use Rattle.envelope.specs.Entries.{entry};
 use crate::kind::Kind;
 use crate::kind::Set;
 

@@ -6,7 +6,7 @@ use lib.ListN.{length, getD, take}
 use Rattle.std.proofs.shelf.Lists.{joined-more, map-more, take-all, length-map}
 use Rattle.std.specs.declared.option.Option.{Option}
 use Rattle.std.specs.Joined.{joined}
-use Rattle.fault.specs.Numbers.{letter, Told, told}
+use Rattle.fault.specs.Numbers.{Told}
 use Rattle.envelope.specs.declared.record.Record.{Record}
 use Rattle.envelope.specs.Entries.{entry}
 use Rattle.listing.specs.Listing.{record-line, last-line}

@@ -1,10 +1,9 @@
 use mathlib.Core.Path.{ap, sym, _∙_}
-use mathlib.Core.List.{map, _++_}
+use mathlib.Core.List.{map}
 use lib.ListN.{length}
 use Rattle.std.specs.Options.{mapped}
 use Rattle.fault.specs.Numbers.{told}
 use Rattle.listing.proofs.Listings.{line-more, line-last}
-use Rattle.envelope.specs.Held.{held}
 use Rattle.listing.specs.Listing.{head-line, listing}
 use Rattle.envelope.specs.Entries.{entry}
 use Rattle.listing.proofs.list.Needs as need

@@ -5,7 +5,7 @@ use Rattle.std.specs.Options.{okOr}
 use Rattle.fault.specs.Numbers.{told}
 use Rattle.envelope.proofs.Judgements.{answers, verdict-or}
 use Rattle.envelope.proofs.Readings.{begun, took, shorter, one-more, ended, stopped}
-use Rattle.envelope.specs.Judging.{verdict, couple-of}
+use Rattle.envelope.specs.Judging.{verdict}
 use Rattle.envelope.proofs.judge.judge.Needs as need
 
 pub loop-record-holds : need.loop-record-holds
