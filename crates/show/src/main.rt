@@ -13,17 +13,26 @@ fn read_input<R: Read + Drop>(heap: Global, source: R) -> io::Result<Vec<u8>> {
     Ok(input)
 }
 
-fn main(rt: LibcRuntime) -> io::Result<()> {
-    let heap = rt.alloc();
-    let input = match read_input(heap, rt.stdin()) {
-        Ok(input) => input,
-        Err(error) => {
-            eprintln!(rt, "show: cannot read standard input: {error}")?;
-            return Err(error);
-        }
-    };
-    let text = show(heap, input.as_slice())?;
+// Says on standard error what failed, and hands the error on: the program then ends with status 1.
+fn fail(rt: &LibcRuntime, what: &str, error: io::Error) -> io::Result<()> {
+    eprintln!(rt, "show: {what}: {error}")?;
+    Err(error)
+}
+
+fn list_input(rt: &LibcRuntime, input: &[u8]) -> io::Result<()> {
+    let text = show(rt.alloc(), input)?;
     rt.write_all(text.as_bytes())
+}
+
+fn main(rt: LibcRuntime) -> io::Result<()> {
+    let input = match read_input(rt.alloc(), rt.stdin()) {
+        Ok(input) => input,
+        Err(error) => return fail(&rt, "cannot read standard input", error),
+    };
+    match list_input(&rt, input.as_slice()) {
+        Ok(()) => Ok(()),
+        Err(error) => fail(&rt, "cannot write the listing", error),
+    }
 }
 
 #[cfg(test)]
