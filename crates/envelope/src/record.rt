@@ -11,6 +11,7 @@ pub struct Part<'a> {
     pub bytes: &'a [u8],
 }
 
+// A record, by what its body is.
 #[derive(Clone, Copy)]
 pub enum Record<'a> {
     Key(Set, Part<'a>),
@@ -40,7 +41,8 @@ impl<'a> Record<'a> {
     }
 
     pub fn part(&self) -> Part<'a>
-        ensures { λ r. ⌜ r .place ≡ entry (now (self .entry)) .place ⌝ ∗ ⌜ now (r .bytes) ≡ entry (now (self .entry)) .body ⌝ }
+        ensures place { λ r. ⌜ r .place ≡ entry (now (self .entry)) .place ⌝ }
+        ensures body { λ r. ⌜ now (r .bytes) ≡ entry (now (self .entry)) .body ⌝ }
     {
         match self {
             Record::Key(_, part) => *part,

@@ -1,4 +1,4 @@
-// Counts the records of an envelope by kind, and keeps the first of each.
+// Counts keys, signatures and days, and keeps each that is the only one so far.
 ghost use mathlib.Core.Path.{_≡_};
 ghost use mathlib.Core.List.{List, [], _∷_, _++_};
 ghost use Rattle.std.specs.Options.{mapped};
@@ -20,6 +20,7 @@ pub enum Seen<T> {
 }
 
 impl<T: Copy> Seen<T> {
+    // What is seen with one more.
     pub fn and(self, value: T) -> Seen<T>
         ensures { λ r. ⌜ r ≡ more self value ⌝ }
     {
@@ -31,6 +32,7 @@ impl<T: Copy> Seen<T> {
     }
 }
 
+// What was read so far, by what it is.
 #[derive(Clone, Copy)]
 pub struct Tally<'a> {
     keys: Seen<(Set, Part<'a>)>,
@@ -59,6 +61,7 @@ impl<'a> Tally<'a> {
         }
     }
 
+    // The key and the signature, where there is one of each, of one set, and no second day.
     pub fn couple(&self) -> Option<Couple<'a>>
         ensures { λ r. ⌜ ((es : List Entry) → Tallies (now (self .entry)) es → mapped couple-items r ≡ couple-of es) ⌝ }
     {

@@ -53,7 +53,7 @@ mod tests {
     impl Read for Source as SourceRead {
         fn read(&mut self, buf: &mut [u8]) -> io::Result<usize> {
             if self.left == 0 && self.fails {
-                return Err(io::Error::other("torn tape"));
+                return Err(io::Error::other("read failed"));
             }
             let count = buf.len().min(self.left).min(1000);
             self.left -= count;
