@@ -68,14 +68,14 @@ same-set-same Rehearsal = refl
 
 chosen : {X : Type 0} (t : Bool) (x y : X) → cond t (Some x) None ≡ Some y → (t ≡ true) × (x ≡ y)
 chosen true x y e = (refl, cc)
-chosen false x y e = absurd (let z : _≡_ {A = ℕ} 0 1 = cc in omega arith)
+chosen false x y e = absurd (grind arith)
 
 -- a couple is found among records just where there is one
 coupled-from : (ks ss : List Item) (few : Bool) (k s : Item) → coupled (only ks) (only ss) few ≡ Some (k, s) → (ks ≡ k ∷ []) × (ss ≡ s ∷ []) × (k .set ≡ s .set) × (few ≡ true)
-coupled-from [] ss few k s e = absurd (let z : _≡_ {A = ℕ} 0 1 = cc in omega arith)
-coupled-from (x ∷ y ∷ zs) ss few k s e = absurd (let z : _≡_ {A = ℕ} 0 1 = cc in omega arith)
-coupled-from (x ∷ []) [] few k s e = absurd (let z : _≡_ {A = ℕ} 0 1 = cc in omega arith)
-coupled-from (x ∷ []) (y ∷ z ∷ zs) few k s e = absurd (let z : _≡_ {A = ℕ} 0 1 = cc in omega arith)
+coupled-from [] ss few k s e = absurd (grind arith)
+coupled-from (x ∷ y ∷ zs) ss few k s e = absurd (grind arith)
+coupled-from (x ∷ []) [] few k s e = absurd (grind arith)
+coupled-from (x ∷ []) (y ∷ z ∷ zs) few k s e = absurd (grind arith)
 coupled-from (x ∷ []) (y ∷ []) few k s e =
     let c = chosen (same-set (x .set) (y .set) && few) (x, y) (k, s) e in
     let t = and-parts (same-set (x .set) (y .set)) few (c .0) in
@@ -100,11 +100,11 @@ judged-exact bytes o faithful = go (o .fault) refl
     found None is none =
         λ k s c.
         let same = faithful .only (c .entries) (c .placed) (c .whole) .0 in
-        let z : _≡_ {A = ℕ} 0 1 = cc (ap couple-of same, couple-from (c .entries) k s (c .couples)) in
-        omega arith
+        let none : _≡_ {A = Option (Item × Item)} None (Some (k, s)) = sym is ∙ ap couple-of same ∙ couple-from (c .entries) k s (c .couples) in
+        grind arith
 
     go : (f : Option Told) → o .fault ≡ f → Exact bytes (judged f (o .entries) (length bytes))
-    go (Some f) is = λ k s c. let z : _≡_ {A = ℕ} 0 1 = cc (faithful .only (c .entries) (c .placed) (c .whole) .1) in omega arith
+    go (Some f) is = λ k s c. let none = sym is ∙ faithful .only (c .entries) (c .placed) (c .whole) .1 in grind arith
     go None is = found (couple-of (o .entries)) refl is
 
 exact : (bytes : List ℕ) → Exact bytes (judgement bytes)

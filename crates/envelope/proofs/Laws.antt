@@ -36,7 +36,7 @@ byte-first true b j k o here later e = let same : j ≡ k = cc in ap kind-byte (
 byte-first false b j k o here later e = later e
 
 byte-among : (ks : List Kind) (b : ℕ) (k : Kind) → kind-among ks b ≡ Some k → kind-byte k ≡ b
-byte-among [] b k e = absurd (let z : _≡_ {A = ℕ} 0 1 = cc in omega arith)
+byte-among [] b k e = absurd (grind arith)
 byte-among (j ∷ ks) b k e = byte-first (eqb (kind-byte j) b) b j k (kind-among ks b) (eqb-true (kind-byte j) b) (byte-among ks b k) e
 
 -- what stands first is a whole record, or nothing that can be read
@@ -48,7 +48,7 @@ first : (place b : ℕ) (bytes : List ℕ) → First place b bytes (next-at plac
 first place b bytes = go (kind-of b) refl
   where
     go : (o : Option Kind) → kind-of b ≡ o → First place b bytes (next-kind place o bytes)
-    go None e = refused (fault-at UnknownKind place) refl refl (inl (refl, λ k is. let z : _≡_ {A = ℕ} 0 1 = cc (kind-of-byte k, ap kind-of is) in omega arith))
+    go None e = refused (fault-at UnknownKind place) refl refl (inl (refl, λ k is. let none : Some k ≡ None = sym (kind-of-byte k) ∙ ap kind-of is ∙ e in grind arith))
     go (Some k) e =
         ⊎-elim
         (λ less. rw (lt-ltb (length bytes) (body-length k) less) (refused (fault-at BodyCutShort place) refl refl (inr (refl, (k, byte-among kinds b k e, less)))))
@@ -63,7 +63,7 @@ record From (place : ℕ) (bytes : List ℕ) (o : Outcome) : Type 0 where
       → (left : List ℕ) × (joined written (o .entries) ++ left ≡ bytes) × (f .place ≡ place + length (joined written (o .entries))) × (f .letter ≡ letter Envelope) × Stands (f .number) left
 
 none : (place : ℕ) → From place [] (record { entries = []; fault = None })
-none place = record { placed = tt; whole = λ e. refl; stopped = λ f e. absurd (let z : _≡_ {A = ℕ} 0 1 = cc in omega arith) }
+none place = record { placed = tt; whole = λ e. refl; stopped = λ f e. absurd (grind arith) }
 
 after : (place b : ℕ) (bytes : List ℕ) (x : Next) (o : Outcome) → First place b bytes x
     → (length (drop (taken x) (b ∷ bytes)) ≤ length bytes → From (place + taken x) (drop (taken x) (b ∷ bytes)) o) → From place (b ∷ bytes) (continued x o)
@@ -88,7 +88,7 @@ after place b bytes _ o (whole k is long) less =
 after place b bytes _ o (refused f origin at stands) less =
     record {
       placed = tt;
-      whole = λ e. absurd (let z : _≡_ {A = ℕ} 0 1 = cc in omega arith);
+      whole = λ e. absurd (grind arith);
       stopped = λ g e. let same : f ≡ g = cc in subst (λ h. (left : List ℕ) × (left ≡ b ∷ bytes) × (h .place ≡ place + 0) × (h .letter ≡ letter Envelope) × Stands (h .number) left) same (b ∷ bytes, refl, omega arith, origin, stands);
     }
 

@@ -1,9 +1,10 @@
 -- Readings step by step, as a loop over `next` takes them. Assumes nothing.
 use mathlib.Core.Path.{_≡_, refl, sym, ap, _∙_}
-use mathlib.Core.List.{List, [], _∷_, _++_, append-assoc, append-nil}
+use mathlib.Core.List.{List, [], _∷_, _++_, map, append-assoc, append-nil}
 use Prim.Native.Nat.{ℕ, zero, suc, _+_, _-_, _≤_, _<_}
 use native.Mathlib.Omega.{arith}
 use lib.ListN.{length, drop, length-drop}
+use Rattle.std.proofs.shelf.Lists.{map-push}
 use Rattle.std.specs.declared.option.Option.{Option}
 use Rattle.std.specs.declared.option.Option.the-variants.{Some, None}
 use Rattle.std.specs.declared.result.Result.the-variants.{Ok, Err}
@@ -67,6 +68,10 @@ pub record Took (place : ℕ) (left : List ℕ) (e : Entry) (next : ℕ) (rest :
   pub at : next ≡ place + length (written e)
   pub after : rest ≡ drop (length (written e)) left
 
+-- a record more at the end of a list of them
+pub pushed : (rs more : List Record) (r : Record) → more ≡ rs ++ r ∷ [] → map entry more ≡ map entry rs ++ entry r ∷ []
+pushed rs more r grown = ap (map entry) grown ∙ map-push entry rs r
+
 -- as `next` promises it
 pub took : {place next : ℕ} {left rest : List ℕ} (o : Option Record) (r : Record) → o ≡ Some r → answered (Ok o) ≡ next-at place left → next ≡ place + taken (answered (Ok o)) → rest ≡ drop (taken (answered (Ok o))) left
     → Took place left (entry r) next rest
@@ -78,7 +83,7 @@ module _ {place next : ℕ} {left rest : List ℕ} {e : Entry} (one : Took place
   shorter = rw (one .after) (go left (one .found))
     where
       go : (bs : List ℕ) → Ok (Some e) ≡ next-at place bs → length (drop (length (written e)) bs) < length bs
-      go [] found = absurd (let z : _≡_ {A = ℕ} 0 1 = cc in omega arith)
+      go [] found = absurd (grind arith)
       go (b ∷ bs) found = omega (arith, length-drop (length (e .body)) bs)
 
   pub one-more : {bytes : List ℕ} {es more : List Entry} → Sofar bytes es place left → more ≡ es ++ e ∷ [] → Sofar bytes more next rest

@@ -29,7 +29,7 @@ cut-from all k n body rest is known long front back =
 
 pub found : (place : ℕ) (all : List ℕ) (k : Kind) (body rest : List ℕ) → Cut all k body rest
     → _≡_ {A = Next} (Ok (Some (record { place = place; kind = k; body = body }))) (next-at place all)
-found place [] k body rest h = absurd (let k = h .known in let z : _≡_ {A = ℕ} 0 1 = cc in omega arith)
+found place [] k body rest h = absurd (let k = h .known in grind arith)
 found place (b ∷ bytes) k body rest h =
     rw (← h .known, h .front) (let l = h .long in grind (arith, tells))
 

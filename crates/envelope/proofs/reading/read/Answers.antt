@@ -1,8 +1,7 @@
-use mathlib.Core.Path.{ap, sym, subst, _∙_}
+use mathlib.Core.Path.{ap, sym, subst}
 use mathlib.Core.List.{map}
-use Rattle.std.proofs.shelf.Lists.{map-push}
 use Rattle.envelope.proofs.Laws.{law}
-use Rattle.envelope.proofs.Readings.{begun, took, shorter, one-more, ended, stopped}
+use Rattle.envelope.proofs.Readings.{begun, pushed, took, shorter, one-more, ended, stopped}
 use Rattle.envelope.specs.Entries.{entry}
 use Rattle.envelope.specs.Law.{Faithful}
 use Rattle.envelope.proofs.reading.read.Needs as need
@@ -28,4 +27,4 @@ loop-next-less c =
 pub loop-next-again : need.loop-next-again
 loop-next-again c =
     let told = c .in-Ok .ensures tt in
-    one-more (took _ _ (c .in-Some .is) (told .answers) (told .place) (told .rest)) (c .loop-next .inv) (ap (map entry) (c .in-Continue-push .ensures tt .items) ∙ map-push entry _ _)
+    one-more (took _ _ (c .in-Some .is) (told .answers) (told .place) (told .rest)) (c .loop-next .inv) (pushed _ _ _ (c .in-Continue-push .ensures tt .items))
