@@ -12,7 +12,7 @@ returns c =
     let all = c .args .self .now .rest .now in
     let made = c .new .ensures in
     let parts = c .split-at .ensures in
-    let whole = cut-from all (c .in-Some .kind) _ _ _ (c .body-length-length .ensures) (c .in-Some .ensures tt) (c .if-rest-length .left) (parts .front) (parts .back) in
+    let whole = cut-from all (c .in-Some .kind) _ _ _ (c .body-length-length .ensures) (c .in-Some .ensures tt) (omega arith) (parts .front) (parts .back) in
     let long = ap (λ e. length (e .body)) made ∙ parts .front-len in
     record {
       answers = ap (λ e. Ok (Some e)) made ∙ found _ _ _ _ _ whole;
