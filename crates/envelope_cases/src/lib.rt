@@ -5,6 +5,8 @@ mod tests {
     use envelope::kind::Set;
     use envelope::kind::SetDebug;
     use envelope::kind::SetPartialEq;
+    use envelope::reader::Reader;
+    use envelope::record::Record;
     use fault::FaultDisplay;
     use listing::LONGEST;
     use listing::show;
@@ -141,6 +143,28 @@ mod tests {
             )?;
         }
         Ok(())
+    }
+
+    fn stops(reader: &mut Reader, heap: Global, line: &str) -> Result<(), Fail> {
+        let Err(fault) = reader.next() else {
+            return Err(Fail::new("no fault"));
+        };
+        check_eq(format!(heap, "{fault}")?.as_str(), line)
+    }
+
+    #[test]
+    fn a_reader_stays_at_a_fault_and_at_the_end(rt: LibcRuntime) -> Result<(), Fail> {
+        let heap = rt.alloc();
+        let bytes = written(heap, &[DAY, lone(0), KEY_R])?;
+        let mut reader = Reader::new(bytes.as_slice());
+        check(matches!(reader.next(), Ok(Some(Record::Day(_)))))?;
+        stops(&mut reader, heap, "refusal 12 layer E place 5")?;
+        stops(&mut reader, heap, "refusal 12 layer E place 5")?;
+        let bytes = written(heap, &[KEY_R])?;
+        let mut reader = Reader::new(bytes.as_slice());
+        check(matches!(reader.next(), Ok(Some(Record::Key(Set::Rehearsal, _)))))?;
+        check(matches!(reader.next(), Ok(None)))?;
+        check(matches!(reader.next(), Ok(None)))
     }
 
     // 72 records of 8,192 bytes in all.

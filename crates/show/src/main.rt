@@ -1,4 +1,7 @@
 // Lists the envelope on standard input: place, kind and body length of each record.
+ghost use mathlib.Core.Path.{_≡_};
+ghost use mathlib.Core.Bool.{true};
+ghost use Rattle.std.specs.Results.{isErr};
 use listing::LONGEST;
 use listing::show;
 use std::alloc::Global;
@@ -14,7 +17,9 @@ fn read_input<R: Read + Drop>(heap: Global, source: R) -> io::Result<Vec<u8>> {
 }
 
 // Says on standard error what failed, and hands the error on: the program then ends with status 1.
-fn fail(rt: &LibcRuntime, what: &str, error: io::Error) -> io::Result<()> {
+fn fail(rt: &LibcRuntime, what: &str, error: io::Error) -> io::Result<()>
+    ensures { λ r. ⌜ isErr r ≡ true ⌝ }
+{
     eprintln!(rt, "show: {what}: {error}")?;
     Err(error)
 }
