@@ -1,5 +1,5 @@
 -- What the judge keeps from record to record, and why its answer is exact. Assumes nothing.
-use mathlib.Core.Path.{_≡_, refl, sym, ap, subst, _∙_}
+use mathlib.Core.Path.{_≡_, refl, sym, ap, _∙_}
 use mathlib.Core.Bool.{Bool, true, false, cond, _&&_}
 use mathlib.Core.List.{List, [], _∷_, _++_, append-nil}
 use Prim.Native.Nat.{ℕ}
@@ -11,28 +11,26 @@ use Rattle.std.proofs.shelf.Tests.{false≢true, and-parts, leb-true, le-leb}
 use Rattle.std.specs.declared.option.Option.{Option}
 use Rattle.std.specs.declared.option.Option.the-variants.{Some, None}
 use Rattle.std.specs.Joined.{joined}
-use Rattle.std.specs.Options.{okOr, mapped}
-use Rattle.fault.specs.declared.Fault.{Fault}
+use Rattle.std.specs.Options.{okOr}
 use Rattle.fault.specs.declared.Refusal.the-variants.{NotOneCouple}
-use Rattle.fault.specs.Numbers.{Told, told}
-use Rattle.envelope.specs.declared.couple.Couple.{Couple}
+use Rattle.fault.specs.Numbers.{Told}
 use Rattle.envelope.specs.declared.kind.Set.{Set}
 use Rattle.envelope.specs.declared.kind.Set.the-variants.{S16, Rehearsal}
 use Rattle.envelope.specs.declared.tally.Seen.{Seen}
 use Rattle.envelope.specs.declared.tally.Seen.the-variants.{Nothing, One, Several}
 use Rattle.envelope.specs.declared.tally.Tally.{Tally}
 use Rattle.envelope.specs.Entries.{Entry}
-use Rattle.envelope.specs.Judging.{Item, keys, signatures, days, Couples, same-set, only, coupled, couple-of, judged, judgement, Exact, Verdict, verdict, couple-items}
+use Rattle.envelope.specs.Judging.{Item, keys, signatures, days, Couples, same-set, only, coupled, couple-of, judged, judgement, Exact}
 use Rattle.envelope.specs.Law.{Faithful}
 use Rattle.envelope.specs.Reading.{Outcome, fault-at, reading}
 use Rattle.envelope.specs.Tallies.{Tallies, seen, more, each-seen}
-use Rattle.envelope.proofs.Laws.{law}
+use Rattle.envelope.proofs.Faithfulness.{law}
 use Rattle.envelope.proofs.Readings.{Sofar}
 
 -- the records before a place, and their tally
-pub record Counted (bytes : List ℕ) (place : ℕ) (left : List ℕ) (t : Tally) : Type 0 where
+pub record Counted (all : Outcome) (place : ℕ) (left : List ℕ) (t : Tally) : Type 0 where
   pub entries : List Entry
-  pub sofar : Sofar bytes entries place left
+  pub sofar : Sofar all entries place left
   pub tallies : Tallies t entries
 
 more-seen : {X : Type 0} (xs : List X) (x : X) → seen (xs ++ x ∷ []) ≡ more (seen xs) x
@@ -107,15 +105,5 @@ judged-exact bytes o faithful = go (o .fault) refl
     go (Some f) is = λ k s c. let none = sym is ∙ faithful .only (c .entries) (c .placed) (c .whole) .1 in grind arith
     go None is = found (couple-of (o .entries)) refl is
 
-exact : (bytes : List ℕ) → Exact bytes (judgement bytes)
+pub exact : (bytes : List ℕ) → Exact bytes (judgement bytes)
 exact bytes = judged-exact bytes (reading bytes) (law bytes)
-
--- an answer that is the judgement is exact
-pub answers : (bytes : List ℕ) (o : Outcome) (v : Verdict) → reading bytes ≡ o → v ≡ judged (o .fault) (o .entries) (length bytes) → (v ≡ judgement bytes) × Exact bytes v
-answers bytes o v is judges =
-    let same = judges ∙ ap (λ p. judged (p .fault) (p .entries) (length bytes)) (sym is) in
-    (same, subst (Exact bytes) (sym same) (exact bytes))
-
-pub verdict-or : (o : Option Couple) (f : Fault) → verdict (okOr o f) ≡ okOr (mapped couple-items o) (told f)
-verdict-or None f = refl
-verdict-or (Some c) f = refl

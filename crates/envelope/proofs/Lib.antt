@@ -1,4 +1,4 @@
 pub mod Steps
 pub mod Readings
-pub mod Laws
+pub mod Faithfulness
 pub mod Judgements

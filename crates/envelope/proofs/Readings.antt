@@ -11,7 +11,7 @@ use Rattle.std.specs.declared.result.Result.the-variants.{Ok, Err}
 use Rattle.fault.specs.Numbers.{Told}
 use Rattle.envelope.specs.declared.record.Record.{Record}
 use Rattle.envelope.specs.Entries.{Entry, entry, written}
-use Rattle.envelope.specs.Reading.{Next, Outcome, next-at, taken, continued, reading-within, reading-from, reading, answered}
+use Rattle.envelope.specs.Reading.{Next, Outcome, next-at, taken, continued, reading-within, reading-from, answered}
 
 -- after a step fewer bytes are left, so two ways to read on are one if they agree there
 after-step : (x : Next) (place b : ℕ) (bytes : List ℕ) (F G : ℕ → List ℕ → Outcome) → ((p : ℕ) (left : List ℕ) → length left ≤ length bytes → F p left ≡ G p left)
@@ -42,25 +42,24 @@ step place (b ∷ bytes) =
 abbrev pub preceded : List Entry → Outcome → Outcome
 preceded es o = record { entries = es ++ o .entries; fault = o .fault }
 
--- es are the records of bytes before a place, from which on left are the bytes
-pub record Sofar (bytes : List ℕ) (es : List Entry) (place : ℕ) (left : List ℕ) : Type 0 where
-  pub is : reading bytes ≡ preceded es (reading-from place left)
+-- the reading all is the records es, and what is read from a place on, where left are the bytes
+pub record Sofar (all : Outcome) (es : List Entry) (place : ℕ) (left : List ℕ) : Type 0 where
+  pub is : all ≡ preceded es (reading-from place left)
 
-pub begun : (bytes : List ℕ) (es : List Entry) (place : ℕ) (left : List ℕ) → es ≡ [] → place ≡ 0 → left ≡ bytes → Sofar bytes es place left
-unfolding reading
-begun bytes es place left none start all = record { is = λ i. preceded (sym none i) (reading-from (sym start i) (sym all i)) }
+pub begun : (es : List Entry) (place : ℕ) (left : List ℕ) → es ≡ [] → Sofar (reading-from place left) es place left
+begun es place left none = record { is = ap (λ xs. preceded xs (reading-from place left)) (sym none) }
 
 -- the next step of the reading
-then-on : {bytes : List ℕ} {es : List Entry} {place : ℕ} {left : List ℕ} → Sofar bytes es place left → (x : Next) → x ≡ next-at place left
-    → reading bytes ≡ preceded es (continued x (reading-from (place + taken x) (drop (taken x) left)))
-then-on {bytes} {es} {place} {left} before x e =
+then-on : {all : Outcome} {es : List Entry} {place : ℕ} {left : List ℕ} → Sofar all es place left → (x : Next) → x ≡ next-at place left
+    → all ≡ preceded es (continued x (reading-from (place + taken x) (drop (taken x) left)))
+then-on {all} {es} {place} {left} before x e =
     before .is ∙ ap (preceded es) (step place left) ∙ ap (λ y. preceded es (continued y (reading-from (place + taken y) (drop (taken y) left)))) (sym e)
 
-pub ended : {bytes : List ℕ} {es : List Entry} {place : ℕ} {left : List ℕ} → Sofar bytes es place left → Ok None ≡ next-at place left → reading bytes ≡ record { entries = es; fault = None }
-ended {bytes} {es} before found = then-on before (Ok None) found ∙ ap (λ xs. record { entries = xs; fault = None }) (append-nil es)
+pub ended : {all : Outcome} {es : List Entry} {place : ℕ} {left : List ℕ} → Sofar all es place left → Ok None ≡ next-at place left → all ≡ record { entries = es; fault = None }
+ended {all} {es} before found = then-on before (Ok None) found ∙ ap (λ xs. record { entries = xs; fault = None }) (append-nil es)
 
-pub stopped : {bytes : List ℕ} {es : List Entry} {place : ℕ} {left : List ℕ} → Sofar bytes es place left → (f : Told) → Err f ≡ next-at place left → reading bytes ≡ record { entries = es; fault = Some f }
-stopped {bytes} {es} before f found = then-on before (Err f) found ∙ ap (λ xs. record { entries = xs; fault = Some f }) (append-nil es)
+pub stopped : {all : Outcome} {es : List Entry} {place : ℕ} {left : List ℕ} → Sofar all es place left → (f : Told) → Err f ≡ next-at place left → all ≡ record { entries = es; fault = Some f }
+stopped {all} {es} before f found = then-on before (Err f) found ∙ ap (λ xs. record { entries = xs; fault = Some f }) (append-nil es)
 
 -- the record e stands at a place, and rest are the bytes after it
 pub record Took (place : ℕ) (left : List ℕ) (e : Entry) (next : ℕ) (rest : List ℕ) : Type 0 where
@@ -86,8 +85,8 @@ module _ {place next : ℕ} {left rest : List ℕ} {e : Entry} (one : Took place
       go [] found = absurd (grind arith)
       go (b ∷ bs) found = omega (arith, length-drop (length (e .body)) bs)
 
-  pub one-more : {bytes : List ℕ} {es more : List Entry} → Sofar bytes es place left → more ≡ es ++ e ∷ [] → Sofar bytes more next rest
-  one-more {bytes} {es} {more} before grown =
+  pub one-more : {all : Outcome} {es more : List Entry} → Sofar all es place left → more ≡ es ++ e ∷ [] → Sofar all more next rest
+  one-more {all} {es} {more} before grown =
       let on : Outcome = reading-from (place + length (written e)) (drop (length (written e)) left) in
       record {
         is =

@@ -76,5 +76,5 @@ reading-within (suc n) place bytes =
 abbrev pub reading-from : ℕ → List ℕ → Outcome
 reading-from place bytes = reading-within (length bytes) place bytes
 
-unfoldable pub reading : List ℕ → Outcome
+abbrev pub reading : List ℕ → Outcome
 reading bytes = reading-from 0 bytes

@@ -1,6 +1,11 @@
 -- What a tally of records stands for. Assumes nothing.
 use mathlib.Core.Path.{_≡_}
 use mathlib.Core.List.{List, [], _∷_}
+use Rattle.std.specs.declared.option.Option.the-variants.{Some, None}
+use Rattle.std.specs.declared.result.Result.{Result}
+use Rattle.std.specs.declared.result.Result.the-variants.{Ok, Err}
+use Rattle.fault.specs.declared.Fault.{Fault}
+use Rattle.fault.specs.Numbers.{told}
 use Rattle.envelope.specs.declared.kind.Kind.the-variants.{Day}
 use Rattle.envelope.specs.declared.kind.Set.{Set}
 use Rattle.envelope.specs.declared.record.Part.{Part}
@@ -9,6 +14,7 @@ use Rattle.envelope.specs.declared.tally.Seen.the-variants.{Nothing, One, Seve
 use Rattle.envelope.specs.declared.tally.Tally.{Tally}
 use Rattle.envelope.specs.Entries.{Entry}
 use Rattle.envelope.specs.Judging.{Item, keys, signatures, days}
+use Rattle.envelope.specs.Reading.{Outcome}
 
 -- what is seen of a list: nothing, one thing, or that there are several
 abbrev pub seen : {X : Type 0} → List X → Seen X
@@ -38,3 +44,8 @@ pub record Tallies (t : Tally) (es : List Entry) : Type 0 where
   pub of-keys : each-seen part-item (t .keys) ≡ seen (keys es)
   pub of-signatures : each-seen part-item (t .signatures) ≡ seen (signatures es)
   pub of-days : each-seen part-day (t .days) ≡ seen (days es)
+
+-- where a reading ended without a fault, the tally is that of its records; else the fault is the reading's
+abbrev pub Tallied : Result Tally Fault → Outcome → Type 0
+Tallied (Ok t) o = (o .fault ≡ None) × Tallies t (o .entries)
+Tallied (Err f) o = o .fault ≡ Some (told f)

@@ -2,6 +2,7 @@
 pub mod couple;
 pub mod judge;
 pub mod kind;
+mod laws;
 pub mod reader;
 pub mod reading;
 pub mod record;

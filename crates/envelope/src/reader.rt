@@ -7,6 +7,7 @@ ghost use Rattle.fault.specs.Numbers.{told};
 ghost use Rattle.envelope.specs.Law.{Faithful};
 ghost use Rattle.envelope.specs.Reading.{answered, fault-at, next-at, reading, taken};
 use crate::kind::Kind;
+use crate::laws::reading_is_faithful;
 use crate::record::Part;
 use crate::record::Record;
 use fault::Fault;
@@ -39,6 +40,7 @@ impl<'a> Reader<'a> {
         ensures rest { λ r. ⌜ now (r .rest) ≡ now (envelope .entry) ⌝ }
         ensures faithful { λ _. ⌜ Faithful (now (envelope .entry)) (reading (now (envelope .entry))) ⌝ }
     {
+        reading_is_faithful(envelope);
         Reader {
             place: 0,
             rest: envelope,

@@ -1,9 +1,9 @@
-// Reads an envelope from end to end.
+// All records of an envelope at once.
 ghost use mathlib.Core.Path.{_≡_};
 ghost use Rattle.std.specs.Vec.{made};
 ghost use Rattle.envelope.specs.Held.{held};
 ghost use Rattle.envelope.specs.Law.{Faithful};
-ghost use Rattle.envelope.specs.Reading.{reading};
+ghost use Rattle.envelope.specs.Reading.{reading, reading-from};
 use crate::reader::Reader;
 use crate::record::Record;
 use fault::Fault;
@@ -17,11 +17,10 @@ pub struct Reading<'a> {
     pub fault: Option<Fault>,
 }
 
-pub fn read<'a>(heap: Global, envelope: &'a [u8]) -> Result<Reading<'a>, AllocError>
-    ensures reads { λ r. ⌜ made r (λ x. held x ≡ reading (now (envelope .entry))) ⌝ }
-    ensures faithful { λ r. ⌜ made r (λ x. Faithful (now (envelope .entry)) (held x)) ⌝ }
+// All that a reader has still to give.
+fn collect<'a>(heap: Global, mut reader: Reader<'a>) -> Result<Reading<'a>, AllocError>
+    ensures { λ r. ⌜ made r (λ x. held x ≡ reading-from (reader .entry .place) (now (reader .entry .rest))) ⌝ }
 {
-    let mut reader = Reader::new(envelope);
     let mut records = Vec::new(heap);
     loop {
         let next = match reader.next() {
@@ -39,4 +38,12 @@ pub fn read<'a>(heap: Global, envelope: &'a [u8]) -> Result<Reading<'a>, AllocEr
         };
         records.push(record)?;
     }
+}
+
+// Reads an envelope from end to end.
+pub fn read<'a>(heap: Global, envelope: &'a [u8]) -> Result<Reading<'a>, AllocError>
+    ensures reads { λ r. ⌜ made r (λ x. held x ≡ reading (now (envelope .entry))) ⌝ }
+    ensures faithful { λ _. ⌜ Faithful (now (envelope .entry)) (reading (now (envelope .entry))) ⌝ }
+{
+    collect(heap, Reader::new(envelope))
 }

@@ -1,23 +1,17 @@
-use mathlib.Core.Path.{ap, sym, subst}
+use mathlib.Core.Path.{ap, sym}
 use mathlib.Core.List.{map}
-use Rattle.envelope.proofs.Laws.{law}
 use Rattle.envelope.proofs.Readings.{begun, pushed, took, shorter, one-more, ended, stopped}
 use Rattle.envelope.specs.Entries.{entry}
-use Rattle.envelope.specs.Law.{Faithful}
-use Rattle.envelope.proofs.reading.read.Needs as need
+use Rattle.envelope.proofs.reading.collect.Needs as need
 
 pub loop-next-holds : need.loop-next-holds
-loop-next-holds c = begun _ _ _ _ (ap (map entry) (c .new-records .ensures .items)) (c .new-reader .ensures .place) (c .new-reader .ensures .rest)
+loop-next-holds c = begun _ _ _ (ap (map entry) (c .new-records .ensures .items))
 
 pub returns-in-Err : need.returns-in-Err
-returns-in-Err c =
-    let read = stopped (c .loop-next .inv) _ (c .in-Err .ensures tt .answers) in
-    record { reads = sym read; faithful = subst (Faithful _) read (law _) }
+returns-in-Err c = sym (stopped (c .loop-next .inv) _ (c .in-Err .ensures tt .answers))
 
 pub returns-in-rest : need.returns-in-rest
-returns-in-rest c =
-    let read = ended (c .loop-next .inv) (rw (c .in-rest .is) at (c .in-Ok .ensures tt .answers)) in
-    record { reads = sym read; faithful = subst (Faithful _) read (law _) }
+returns-in-rest c = sym (ended (c .loop-next .inv) (rw (c .in-rest .is) at (c .in-Ok .ensures tt .answers)))
 
 pub loop-next-less : need.loop-next-less
 loop-next-less c =

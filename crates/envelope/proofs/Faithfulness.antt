@@ -114,7 +114,6 @@ again (suc n) place (e ∷ es) p h =
     rw known (ap (λ l. continued (Ok (Some e)) (reading-within n (place + length (written e)) l)) left ∙ ap (continued (Ok (Some e))) (again n (place + length (written e)) es (p .2) (omega arith)))
 
 pub law : (bytes : List ℕ) → Faithful bytes (reading bytes)
-unfolding reading
 law bytes =
     let all = from (length bytes) 0 bytes (omega arith) in
     record {

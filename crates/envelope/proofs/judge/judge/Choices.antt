@@ -1,9 +1,0 @@
-use lib.ListN.{length}
-use Rattle.envelope.proofs.Judgements.{Counted}
-use Rattle.envelope.proofs.judge.judge.Given as given
-
-abbrev pub Inv-loop-record : given.InvT-loop-record
-Inv-loop-record l = Counted (l .envelope) (l .reader .place) (l .reader .rest .now) (l .tally)
-
-abbrev pub μ-loop-record : given.MeasureT-loop-record
-μ-loop-record l = length (l .reader .rest .now)
