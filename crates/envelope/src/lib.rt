@@ -1,4 +1,6 @@
 // Envelopes: files of records that hold public keys, signatures and days.
+#![tactic(auto)]
+
 pub mod couple;
 pub mod judge;
 pub mod kind;

@@ -1,4 +1,6 @@
 // Envelopes of every shape, with what their listing and their judgement should be.
+#![tactic(auto)]
+
 #[cfg(test)]
 mod tests {
     use envelope::judge::judge;

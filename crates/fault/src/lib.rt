@@ -1,4 +1,6 @@
 // What went wrong, where it was found, and at which byte.
+#![tactic(auto)]
+
 ghost use Rattle.std.specs.Prelude.{◌≡◌, Some};
 ghost use Rattle.fault.specs.Lines.{refusal_line};
 ghost use Rattle.fault.specs.Numbers.{letter, number, told};

@@ -1,4 +1,6 @@
 // Hashes with endless output: the interface, two standard hashes, and a layer that collects input.
+#![tactic(auto)]
+
 mod block_input;
 mod block_output;
 mod buffered;
@@ -10,9 +12,6 @@ mod once;
 mod sha256;
 mod shake128;
 
-use crate::buffered::Feeder as _;
-use crate::mgf1::{Feeder as _, Reader as _};
-use crate::shake128::{Feeder as _, Reader as _};
 pub use buffered::Buffered;
 pub use interface::{Feeder, Hash, Reader};
 pub use keccak::{State, permute};

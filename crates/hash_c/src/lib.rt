@@ -1,4 +1,6 @@
 // The hashes as functions for C.
+#![tactic(auto)]
+
 ghost use Rattle.std.specs.Prelude.{◌≡◌, ◌++◌, length};
 ghost use Rattle.hash.specs.Keccak.{blank, lane};
 ghost use Rattle.hash.specs.Mgf1.{mgf1};
@@ -6,7 +8,6 @@ ghost use Rattle.hash.specs.Rows.{front};
 ghost use Rattle.hash.specs.Sha256.{sha256};
 ghost use Rattle.hash.specs.Shake128.{permuted_times, shake128};
 
-use hash::shake128::{Feeder as _, Reader as _};
 use hash::{Feeder, Hash, Mgf1Sha256, Reader, Sha256, Shake128, State, expand, permute};
 
 #[unsafe(no_mangle)]

@@ -1,7 +1,6 @@
 // Bytes in hex.
 use crate::fault::Fault;
-use std::alloc::Global;
-use std::fmt;
+use std::alloc::{AllocError, Global};
 
 fn digit_value(digit: u8) -> Result<u8, Fault> {
     match digit {
@@ -24,7 +23,7 @@ pub(crate) fn bytes_of(heap: Global, text: &str) -> Result<Vec<u8>, Fault> {
 }
 
 // Writes the bytes, and `-` where there are none.
-pub(crate) fn add_hex(text: &mut String, bytes: &[u8]) -> fmt::Result {
+pub(crate) fn add_hex(text: &mut String, bytes: &[u8]) -> Result<(), AllocError> {
     if bytes.is_empty() {
         return write!(text, "-");
     }

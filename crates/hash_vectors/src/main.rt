@@ -1,4 +1,6 @@
 // Answers the cases on standard input: writes each line again, with the bytes that are read behind it.
+#![tactic(auto)]
+
 mod answer;
 mod case;
 mod fault;
@@ -17,10 +19,8 @@ fn answered_line(heap: Global, line: &str) -> Result<String, Fault> {
     let case = case_of(heap, line)?;
     let bytes = answer(heap, &case)?;
     let mut text = format!(in heap; "{line} ")?;
-    match add_hex(&mut text, bytes.as_slice()) {
-        Ok(()) => Ok(text),
-        Err(_) => Err(Fault::Memory),
-    }
+    add_hex(&mut text, bytes.as_slice())?;
+    Ok(text)
 }
 
 // Says on standard error what is wrong with the line: the program then ends with status 1.

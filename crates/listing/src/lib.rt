@@ -1,4 +1,6 @@
 // The text that lists an envelope: a line for each record, and a last line.
+#![tactic(auto)]
+
 ghost use Rattle.std.specs.Prelude.{◌≡◌, ◌++◌, IfOk, string_bytes, OnOk};
 ghost use Rattle.std.specs.Option.{option_map};
 ghost use Rattle.fault.specs.Numbers.{told};

@@ -1,4 +1,6 @@
 // Lists the envelope on standard input: place, kind and body length of each record.
+#![tactic(auto)]
+
 ghost use Rattle.std.specs.Prelude.{◌≡◌, true, is_err};
 
 use listing::{LONGEST, show};

@@ -5,6 +5,6 @@ use Rattle.hash.proofs.block_input.absorb_whole.Goals as goal
 
 pub loop-rest-preserved : goal.loop-rest-preserved
 loop-rest-preserved g c =
-    ap (after c.split-at.result.1.now) c.absorb.ensures
-    ∙ after_halves g.row.SIZE c.loop-rest.rest.now c.split-at.result.0.now c.split-at.result.1.now (g.A.Absorb.answer c.loop-rest.below) c.split-at.ensures.front c.split-at.ensures.back
+    ap (after c.split_at.result.1.now) c.absorb.ensures
+    ∙ after_halves g.row.SIZE c.loop-rest.rest.now c.split_at.result.0.now c.split_at.result.1.now (g.A.Absorb.answer c.loop-rest.below) c.split_at.ensures.front c.split_at.ensures.back
     ∙ c.loop-rest.invariant

@@ -13,11 +13,11 @@ pub returns : goal.returns
 returns g c =
     let held = c.args.held.now in
     let completed = c.complete.new.held in
-    let rest = c.absorb-whole-rest.result.now in
-    let below = g.A.Absorb.answer c.absorb-whole-rest.new.below in
+    let rest = c.absorb_whole-rest.result.now in
+    let below = g.A.Absorb.answer c.absorb_whole-rest.new.below in
     let last = c.add-2.new.self in
     holding_more completed.buffer last.buffer rest completed.count last.count below c.add-2.ensures
     ∙ ap (after rest) (holding_none completed.buffer completed.count below c.complete.ensures.empty)
-    ∙ c.absorb-whole-rest.ensures.taken
-    ∙ ap (after c.split-at.result.1.now) c.complete.ensures.taken
-    ∙ after_halves (g.row.SIZE - held.count) c.args.bytes.now c.split-at.result.0.now c.split-at.result.1.now (holding held.buffer held.count (g.A.Absorb.answer c.args.below.now)) c.split-at.ensures.front c.split-at.ensures.back
+    ∙ c.absorb_whole-rest.ensures.taken
+    ∙ ap (after c.split_at.result.1.now) c.complete.ensures.taken
+    ∙ after_halves (g.row.SIZE - held.count) c.args.bytes.now c.split_at.result.0.now c.split_at.result.1.now (holding held.buffer held.count (g.A.Absorb.answer c.args.below.now)) c.split_at.ensures.front c.split_at.ensures.back

@@ -8,7 +8,7 @@ use Rattle.hash.proofs.compression.block_words.Goals as goal
 pub loop-t-preserved : goal.loop-t-preserved
 loop-t-preserved c =
     let h : c.loop-t.t < length c.loop-t.words = omega arith in
-    (simp length-set c.loop-t.invariant.0, simp c.from-be-bytes.ensures (fill_by_more (word_at c.args.block.now) c.loop-t.words c.loop-t.t 0 h c.loop-t.invariant.1))
+    (simp length-set c.loop-t.invariant.0, simp c.from_be_bytes.ensures (fill_by_more (word_at c.args.block.now) c.loop-t.words c.loop-t.t 0 h c.loop-t.invariant.1))
 
 pub returns : goal.returns
 returns c =

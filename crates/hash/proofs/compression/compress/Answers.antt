@@ -7,4 +7,4 @@ pub returns : goal.returns
 unfolding compressed working_of
 returns c =
     let x = started c.args.chain.words in
-    ap (added x) (c.rounds-v.ensures ∙ ap (λ w. rounds constants (schedule 48 w) x) c.block-window.ensures)
+    ap (added x) (c.rounds-v.ensures ∙ ap (λ w. rounds constants (schedule 48 w) x) c.block_window.ensures)

@@ -12,6 +12,6 @@ returns c =
     let v = working_of c.args.s.working in
     let h : length w ≡ 4 = search rules in
     record {
-      working = c.four-rounds.ensures ∙ sym (ap (λ x. rounds x w v) (written_out 4 k c.requires)) ∙ sym (rounds_longer k w _ v (omega arith));
+      working = c.four_rounds.ensures ∙ sym (ap (λ x. rounds x w v) (written_out 4 k c.requires)) ∙ sym (rounds_longer k w _ v (omega arith));
       window = c.slid.ensures;
     }

@@ -4,4 +4,4 @@ use Rattle.hash.proofs.compression.marked.Goals as goal
 
 pub returns : goal.returns
 returns c =
-    marked_is c.args.held.now c.copy-from-slice.new.self (length c.args.held.now - 0) c.copy-from-slice.ensures.after (omega arith) c.requires
+    marked_is c.args.held.now c.copy_from_slice.new.self (length c.args.held.now - 0) c.copy_from_slice.ensures.after (omega arith) c.requires

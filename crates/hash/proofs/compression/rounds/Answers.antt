@@ -5,8 +5,8 @@ use Rattle.hash.specs.Windows.{window_of, working_of}
 use Rattle.hash.proofs.WindowLaws.{length-constants, rounds_all, rounds_more, window_more}
 use Rattle.hash.proofs.compression.rounds.Goals as goal
 
-pub slice-bounds-four-steps-end : goal.slice-bounds-four-steps-end
-slice-bounds-four-steps-end c = omega (arith, ap length c.round-constants-k.ensures, length-constants)
+pub slice_bounds-four_steps-end : goal.slice_bounds-four_steps-end
+slice_bounds-four_steps-end c = omega (arith, ap length c.round_constants-k.ensures, length-constants)
 
 pub loop-i-init : goal.loop-i-init
 unfolding rounds schedule
@@ -22,7 +22,7 @@ loop-i-preserved c =
     let n : 4 * i + 4 - 4 * i ≡ 4 = omega arith in
     let window = window_more w (4 * i) h in
     let working = rounds_more w (4 * i) h constants v (omega (arith, length-constants)) in
-    (rw (c.four-steps-s.ensures.window, c.loop-i.invariant.0, m) window, rw (c.four-steps-s.ensures.working, c.round-constants-k.ensures, c.loop-i.invariant.0, c.loop-i.invariant.1, m, n) working)
+    (rw (c.four_steps-s.ensures.window, c.loop-i.invariant.0, m) window, rw (c.four_steps-s.ensures.working, c.round_constants-k.ensures, c.loop-i.invariant.0, c.loop-i.invariant.1, m, n) working)
 
 pub returns : goal.returns
 returns c =

@@ -12,10 +12,10 @@ pub loop-constant-preserved : goal.loop-constant-preserved
 loop-constant-preserved c =
     let i = c.loop-constant.constant-index in
     let A = lanes_of c.loop-constant.a in
-    let table = c.round-constants-constant-items.ensures in
+    let table = c.round_constants-constant-items.ensures in
     ap (rounds (drop (i + 1) constants)) (c.round-a.ensures ∙ ap (λ l. round (get_or l i 0) A) table) ∙ sym (one_round constants i A (omega (arith, ap length table))) ∙ c.loop-constant.invariant
 
 pub returns : goal.returns
 returns c =
-    let table = c.round-constants-constant-items.ensures in
+    let table = c.round_constants-constant-items.ensures in
     sym (no_round constants c.loop-constant.constant-index (lanes_of c.loop-constant.a) (omega (arith, ap length table))) ∙ c.loop-constant.invariant

@@ -15,11 +15,11 @@ pub returns : goal.returns
 unfolding round
 returns c =
     let A = lanes_of c.args.s in
-    let added = c.theta-effect-effect.ensures in
-    let y0 = row A 0 _ _ _ added c.theta-rho-pi.ensures c.chi.ensures in
-    let y1 = row A 1 _ _ _ added c.theta-rho-pi-2.ensures c.chi-2.ensures in
-    let y2 = row A 2 _ _ _ added c.theta-rho-pi-3.ensures c.chi-3.ensures in
-    let y3 = row A 3 _ _ _ added c.theta-rho-pi-4.ensures c.chi-4.ensures in
-    let y4 = row A 4 _ _ _ added c.theta-rho-pi-5.ensures c.chi-5.ensures in
+    let added = c.theta_effect-effect.ensures in
+    let y0 = row A 0 _ _ _ added c.theta_rho_pi.ensures c.chi.ensures in
+    let y1 = row A 1 _ _ _ added c.theta_rho_pi-2.ensures c.chi-2.ensures in
+    let y2 = row A 2 _ _ _ added c.theta_rho_pi-3.ensures c.chi-3.ensures in
+    let y3 = row A 3 _ _ _ added c.theta_rho_pi-4.ensures c.chi-4.ensures in
+    let y4 = row A 4 _ _ _ added c.theta_rho_pi-5.ensures c.chi-5.ensures in
     let first = c.iota.ensures ∙ ap (λ l. set l 0 (bit_xor (get_or l 0 0) c.args.constant)) y0 in
     rows first y1 y2 y3 y4

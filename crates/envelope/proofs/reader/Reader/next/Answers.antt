@@ -6,9 +6,9 @@ pub returns : goal.returns
 returns c =
     let all = c.args.self.now.rest.now in
     let made = c.new.ensures in
-    let parts = c.split-at.ensures in
-    let whole = cut_from all c.in-Some.kind _ _ _ c.body-length-length.ensures c.in-Some.ensures (omega arith) parts.front parts.back in
-    let long = ap (λ e. length e.body) made ∙ parts.front-len in
+    let parts = c.split_at.ensures in
+    let whole = cut_from all c.in-Some.kind _ _ _ c.body_length-length.ensures c.in-Some.ensures (omega arith) parts.front parts.back in
+    let long = ap (λ e. length e.body) made ∙ parts.front_len in
     record {
       answers = ap (λ e. Ok (Some e)) made ∙ found _ _ _ _ _ whole;
       place = omega (arith, long);

@@ -4,8 +4,8 @@ use Rattle.hash.specs.Rows.{Gives, unread}
 use Rattle.hash.proofs.Reading.{gives_none, unread_none, unread_fresh}
 use Rattle.hash.proofs.block_output.BlockOutput.finish.Goals as goal
 
-pub returns-then-is-empty : goal.returns-then-is-empty
-returns-then-is-empty g c =
+pub returns-then-is_empty : goal.returns-then-is_empty
+returns-then-is_empty g c =
     let self = c.args.self.now in
     let row = g.S.Squeeze.row self.below in
     gives_none row (unread self.buffer self.place g.row.SIZE row) c.args.out.now (search rules) (unread_none self.buffer self.place g.row.SIZE row c.requires.used)

@@ -6,4 +6,4 @@ pub returns : goal.returns
 returns g c =
     let self = c.args.self.now in
     let next = unread_gives self.buffer self.place (length c.args.out.now) g.row.SIZE (g.S.Squeeze.row self.below) c.requires (search rules) in
-    record { place = search rules; given = record { filled = c.copy-from-slice.ensures.after ∙ next.filled; rest = next.rest } }
+    record { place = search rules; given = record { filled = c.copy_from_slice.ensures.after ∙ next.filled; rest = next.rest } }

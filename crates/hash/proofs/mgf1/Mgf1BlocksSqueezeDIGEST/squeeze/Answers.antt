@@ -24,5 +24,5 @@ pub returns : goal.returns
 returns c =
     let self = c.args.self.now in
     let below : self.counter < 2 ^ 32 = search rules in
-    let long : length c.copy-from-slice.new.self ≡ 32 = search rules in
-    counter-gives (pending self.seed) self.counter c.copy-from-slice.new.self below long (c.copy-from-slice.ensures.after ∙ c.finish.ensures ∙ ap (λ d. d []) c.update.ensures ∙ ap (pending self.seed) (append-nil _ ∙ c.counter-bytes.ensures))
+    let long : length c.copy_from_slice.new.self ≡ 32 = search rules in
+    counter-gives (pending self.seed) self.counter c.copy_from_slice.new.self below long (c.copy_from_slice.ensures.after ∙ c.finish.ensures ∙ ap (λ d. d []) c.update.ensures ∙ ap (pending self.seed) (append-nil _ ∙ c.counter_bytes.ensures))
