@@ -1,4 +1,4 @@
-use Rattle.std.proofs.Common.{◌≡◌, ◌+◌, ◌-◌, ◌%◌, ◌<◌, ◌++◌, length, get_or, take, drop, set, replicate, ap, ◌∙◌, arith, length-drop, length-take, rules}
+use Rattle.std.proofs.Common.{◌≡◌, ◌-◌, ◌%◌, ◌<◌, ◌++◌, length, get_or, take, drop, set, replicate, ap, ◌∙◌, arith, length-drop, length-take, rules}
 use lib.Bits.{bit_xor}
 use Rattle.std.proofs.lemmas.List.{length-take-le}
 use Rattle.hash.specs.Shake128.{pad}
