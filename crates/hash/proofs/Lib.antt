@@ -1,6 +1,9 @@
+pub mod Feeding
 pub mod Reading
 pub mod Words
 pub mod Rounds
+pub mod Sponges
+pub mod ShaLaws
 pub mod BitLaws
 pub mod RoundLaws
 pub mod WindowLaws

@@ -8,6 +8,4 @@ pub mod Mgf1
 pub mod Lanes
 pub mod Windows
 pub mod Digest
-pub mod ShaLaws
-pub mod Feeding
-pub mod Sponges
+pub mod RowBytes

@@ -5,7 +5,7 @@ ghost use Rattle.hash.specs.Mgf1.{mask_from, mgf1, mgf1_over};
 ghost use Rattle.hash.specs.Rows.{unread};
 ghost use Rattle.hash.specs.Sha256.{big_endian, initial};
 ghost use Rattle.hash.specs.Sha256 as SpecsSha256;
-ghost use Rattle.hash.specs.ShaLaws.{digest_below};
+ghost use Rattle.hash.specs.RowBytes.{digest_below};
 
 use crate::block_output::{BlockOutput, Squeeze};
 use crate::compression::DIGEST;

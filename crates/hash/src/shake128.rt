@@ -5,7 +5,7 @@ ghost use Rattle.hash.specs.Keccak.{five, permuted};
 ghost use Rattle.hash.specs.Lanes.{lanes_of};
 ghost use Rattle.hash.specs.Rows.{Row, holding, unread};
 ghost use Rattle.hash.specs.Shake128.{lane_bytes, mixed, padding, shake128, sponge, squeezed, state_bytes};
-ghost use Rattle.hash.specs.Sponges.{shake128_below};
+ghost use Rattle.hash.specs.RowBytes.{shake128_below};
 
 use crate::block_input::{Absorb, Held, LONGEST, feed};
 use crate::block_output::{BlockOutput, Squeeze};

@@ -1,6 +1,6 @@
 use Rattle.std.proofs.Common.{ap, ◌∙◌}
 use Rattle.hash.specs.Rows.{after}
-use Rattle.hash.specs.Feeding.{after_halves}
+use Rattle.hash.proofs.Feeding.{after_halves}
 use Rattle.hash.proofs.block_input.absorb_whole.Goals as goal
 
 pub loop-rest-preserved : goal.loop-rest-preserved

@@ -1,7 +1,7 @@
 use Rattle.std.proofs.Common.{◌≡◌, ◌-◌, ◌++◌, take, ◌∙◌, rules}
 use borrow.Rule.Slice.PartMut.{put_mid}
 use Rattle.std.proofs.lemmas.Slice.{overwrites}
-use Rattle.hash.specs.Feeding.{holding_more}
+use Rattle.hash.proofs.Feeding.{holding_more}
 use Rattle.hash.proofs.block_input.complete.Goals as goal
 
 pub returns : goal.returns

@@ -1,6 +1,6 @@
 use Rattle.std.proofs.Common.{◌-◌, ap, ◌∙◌}
 use Rattle.hash.specs.Rows.{after, holding}
-use Rattle.hash.specs.Feeding.{after_halves, holding_more, holding_none}
+use Rattle.hash.proofs.Feeding.{after_halves, holding_more, holding_none}
 use Rattle.hash.proofs.block_input.feed.Goals as goal
 
 pub returns-then-bytes-room : goal.returns-then-bytes-room

@@ -1,6 +1,6 @@
 use Rattle.std.proofs.Common.{◌≡◌, length, get_or, ◌∙◌, arith, rules}
 use Rattle.std.proofs.lemmas.List.{places}
-use Rattle.hash.specs.ShaLaws.{chain_bytes_all, chain_bytes_more, word_bytes}
+use Rattle.hash.proofs.ShaLaws.{chain_bytes_all, chain_bytes_more, word_bytes}
 use Rattle.hash.proofs.compression.chain_bytes.Goals as goal
 
 pub loop-i-preserved : goal.loop-i-preserved

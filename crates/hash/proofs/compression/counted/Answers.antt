@@ -1,5 +1,5 @@
 use Rattle.std.proofs.Common.{◌≡◌, length, refl, ◌∙◌, rules}
-use Rattle.hash.specs.ShaLaws.{count_bytes, counted_is}
+use Rattle.hash.proofs.ShaLaws.{count_bytes, counted_is}
 use Rattle.hash.proofs.compression.counted.Goals as goal
 
 pub returns : goal.returns

@@ -1,6 +1,6 @@
 use Rattle.std.proofs.Common.{ap, ◌∙◌}
 use Rattle.hash.specs.Sha256.{chain_bytes, compressed}
-use Rattle.hash.specs.ShaLaws.{digest_long, digest_short}
+use Rattle.hash.proofs.ShaLaws.{digest_long, digest_short}
 use Rattle.hash.proofs.compression.finish.Goals as goal
 
 pub returns-then-held-lt56 : goal.returns-then-held-lt56

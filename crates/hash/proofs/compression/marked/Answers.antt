@@ -1,5 +1,5 @@
 use Rattle.std.proofs.Common.{◌-◌, length, arith}
-use Rattle.hash.specs.ShaLaws.{marked_is}
+use Rattle.hash.proofs.ShaLaws.{marked_is}
 use Rattle.hash.proofs.compression.marked.Goals as goal
 
 pub returns : goal.returns

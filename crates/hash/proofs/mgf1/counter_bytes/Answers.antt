@@ -1,5 +1,5 @@
 use Rattle.std.proofs.Common.{rules}
-use Rattle.hash.specs.ShaLaws.{word_bytes}
+use Rattle.hash.proofs.ShaLaws.{word_bytes}
 use Rattle.hash.proofs.mgf1.counter_bytes.Goals as goal
 
 pub returns : goal.returns

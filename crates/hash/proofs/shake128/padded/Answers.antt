@@ -2,7 +2,7 @@ use Rattle.std.proofs.Common.{◌≡◌, ◌-◌, ◌%◌, ◌<◌, ◌++◌, le
 use lib.Bits.{bit_xor}
 use Rattle.std.proofs.lemmas.List.{length-take-le}
 use Rattle.hash.specs.Shake128.{pad}
-use Rattle.hash.specs.Sponges.{marked_block, padded_is}
+use Rattle.hash.proofs.Sponges.{marked_block, padded_is}
 use Rattle.hash.proofs.shake128.padded.Goals as goal
 
 pub returns : goal.returns

@@ -1,7 +1,7 @@
 use Rattle.std.proofs.Common.{◌≡◌, [], ◌∷◌, length, get_or, refl, ap, rules}
 use lib.Lanes.{digits_l}
 use Rattle.hash.specs.Shake128.{lane_bytes}
-use Rattle.hash.specs.Sponges.{first_bytes, stored_more}
+use Rattle.hash.proofs.Sponges.{first_bytes, stored_more}
 use Rattle.hash.proofs.Words.{written_out}
 use Rattle.hash.proofs.shake128.store_block.Goals as goal
 

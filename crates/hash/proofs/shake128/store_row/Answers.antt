@@ -1,6 +1,6 @@
 use Rattle.std.proofs.Common.{◌≡◌, ◌+◌, ◌++◌, length, take, sym, refl, ap, ◌∙◌, arith, rules}
 use Rattle.hash.specs.Shake128.{lane_bytes}
-use Rattle.hash.specs.Sponges.{stored_more}
+use Rattle.hash.proofs.Sponges.{stored_more}
 use Rattle.hash.proofs.Words.{written_out}
 use Rattle.hash.proofs.shake128.store_row.Goals as goal
 

@@ -1,7 +1,7 @@
 use Rattle.std.proofs.Common.{ap, ◌∙◌}
 use Rattle.hash.specs.Digest.{pending}
 use Rattle.hash.specs.Sha256.{digest_from, sha256}
-use Rattle.hash.specs.Feeding.{holding_none}
+use Rattle.hash.proofs.Feeding.{holding_none}
 use Rattle.hash.proofs.sha256.Sha256.new.Goals as goal
 
 pub returns : goal.returns

@@ -1,7 +1,7 @@
 use Rattle.std.proofs.Common.{◌+◌, ◌*◌, ◌%◌, ◌^◌, sym, ap, ◌∙◌, arith}
 use mathlib.Core.Path.{fun_ext}
 use Rattle.hash.specs.Sha256.{digest_from}
-use Rattle.hash.specs.ShaLaws.{digest_block, digest-mod}
+use Rattle.hash.proofs.ShaLaws.{digest_block, digest-mod}
 use Rattle.hash.proofs.sha256.ShaBlocksAbsorbBLOCK.absorb.Goals as goal
 
 pub returns : goal.returns

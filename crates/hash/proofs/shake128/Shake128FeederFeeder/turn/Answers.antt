@@ -3,7 +3,7 @@ use Rattle.std.proofs.lemmas.List.{append-nil, length-take-le}
 use Rattle.hash.specs.Keccak.{permuted}
 use Rattle.hash.specs.Lanes.{lanes_of}
 use Rattle.hash.specs.Shake128.{mixed, padding, sponge, squeezed}
-use Rattle.hash.specs.Sponges.{sponge_last}
+use Rattle.hash.proofs.Sponges.{sponge_last}
 use Rattle.hash.proofs.shake128.Shake128FeederFeeder.turn.Goals as goal
 
 pub returns : goal.returns

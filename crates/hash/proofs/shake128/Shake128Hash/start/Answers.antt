@@ -2,7 +2,7 @@ use Rattle.std.proofs.Common.{ap, ◌∙◌}
 use mathlib.Core.Path.{fun_ext}
 use Rattle.hash.specs.Lanes.{lanes_of}
 use Rattle.hash.specs.Shake128.{shake128, sponge, squeezed}
-use Rattle.hash.specs.Feeding.{holding_none}
+use Rattle.hash.proofs.Feeding.{holding_none}
 use Rattle.hash.proofs.shake128.Shake128Hash.start.Goals as goal
 
 pub returns : goal.returns

@@ -3,7 +3,7 @@ use mathlib.Core.Path.{fun_ext}
 use Rattle.hash.specs.Keccak.{permuted}
 use Rattle.hash.specs.Lanes.{lanes_of}
 use Rattle.hash.specs.Shake128.{sponge, squeezed}
-use Rattle.hash.specs.Sponges.{sponge_block}
+use Rattle.hash.proofs.Sponges.{sponge_block}
 use Rattle.hash.proofs.shake128.StateAbsorbRATE.absorb.Goals as goal
 
 pub returns : goal.returns

@@ -2,13 +2,11 @@
 use Rattle.std.specs.Prelude.{◌≡◌, ℕ, zero, suc, ◌+◌, ◌-◌, ◌/◌, ◌%◌, ◌<◌, List, [], ◌∷◌, ◌++◌, length, take, drop, replicate, bit_xor, slice_index, slice_set, refl}
 use Rattle.std.proofs.Common.{ap, sym, ◌∙◌, add-one, arith}
 use borrow.Rule.Slice.PartMut.{put_mid}
-use Rattle.std.specs.Simd.Lanes.{digits_l}
-use Rattle.std.proofs.lemmas.Nat.{mod_below}
 use Rattle.std.proofs.lemmas.List.{append_assoc, append-nil, drop_all, drop-drop, get_or_at, length-append, length-replicate, length-take-le, replicate_more, set_at, take_all, take_at}
-use Rattle.hash.specs.Feeding.{absorbed_block}
+use Rattle.hash.proofs.Feeding.{absorbed_block}
 use Rattle.hash.specs.Blocks.{absorbed}
 use Rattle.hash.specs.Keccak.{Lanes, permuted}
-use Rattle.hash.specs.Shake128.{absorb, pad, lane_bytes, mixed, padding, permuted_times, shake128, sponge, squeezed, state_bytes}
+use Rattle.hash.specs.Shake128.{absorb, pad, mixed, padding, sponge}
 
 length-pad : (n : ℕ) → length (pad n) ≡ suc n
 length-pad zero = refl
@@ -56,28 +54,6 @@ marked_block count buffer zeros size room e =
     let n : 168 - count ≡ suc (167 - count) = omega arith in
     let filled : put_mid count (168 - count) buffer zeros ≡ take count buffer ++ 0 ∷ replicate (167 - count) 0 = rw (none, append-nil, e, n) in
     rw (filled, set_at (take count buffer) 0 (replicate (167 - count) 0) 0x1F count (length-take-le count buffer (omega arith)))
-
-below-append : (xs ys : List ℕ) → ((k : ℕ) → slice_index xs k < 256) → ((k : ℕ) → slice_index ys k < 256) → (k : ℕ) → slice_index (xs ++ ys) k < 256
-below-append [] ys p q k = q k
-below-append (x ∷ xs) ys p q zero = p 0
-below-append (x ∷ xs) ys p q (suc k) = below-append xs ys (λ j. p (suc j)) q k
-
-digits_below : (n w k : ℕ) → slice_index (digits_l 256 n w) k < 256
-digits_below zero w k = omega arith
-digits_below (suc n) w zero = mod_below w 256 (omega arith)
-digits_below (suc n) w (suc k) = digits_below n (w / 256) k
-
-lanes_below : (lanes : List ℕ) (k : ℕ) → slice_index (lane_bytes lanes) k < 256
-lanes_below [] k = omega arith
-lanes_below (w ∷ ws) k = below-append (digits_l 256 8 w) (lane_bytes ws) (digits_below 8 w) (lanes_below ws) k
-
-state_below : (A : Lanes) (k : ℕ) → slice_index (state_bytes A) k < 256
-state_below [] k = omega arith
-state_below (row ∷ rows) k = below-append (lane_bytes row) (state_bytes rows) (lanes_below row) (state_below rows) k
-
-pub shake128_below : (m : List ℕ) (k : ℕ) → shake128 m k < 256
-unfolding shake128 squeezed
-shake128_below m k = state_below (permuted_times (k / 168) (sponge _ m)) (k % 168)
 
 -- what is written behind what was written before
 pub stored_more : (a b m n : ℕ) (old middle new x y : List ℕ) → a ≡ b → take a middle ≡ take m old ++ x → take n new ≡ take b middle ++ y → take n new ≡ take m old ++ (x ++ y)

@@ -3,11 +3,10 @@ use Rattle.std.specs.Prelude.{◌≡◌, ℕ, zero, suc, ◌+◌, ◌-◌, ◌*�
 use Rattle.std.proofs.Common.{sym, ◌∙◌, div-one, arith}
 use Rattle.std.proofs.Math.Path.{ap}
 use borrow.Rule.Slice.PartMut.{put_mid}
-use Rattle.std.proofs.lemmas.Nat.{mod_below}
 use Rattle.std.proofs.lemmas.List.{append_assoc, append-nil, drop_all, drop-drop, drop-replicate, flat_map_more, length-append, length-replicate, length-take-le, replicate-append-replicate, set_at, take_all, take_at, take_more}
 use Rattle.std.proofs.lemmas.Slice.{take-put_mid}
 use Rattle.hash.specs.Blocks.{absorbed}
-use Rattle.hash.specs.Feeding.{absorbed_block}
+use Rattle.hash.proofs.Feeding.{absorbed_block}
 use Rattle.hash.specs.Sha256.{big_endian, chain_bytes, compressed, digest_from, hashed, initial, padding, sha256}
 
 same_padding : (n k : ℕ) → n % 2 ^ 61 ≡ k % 2 ^ 61 → padding n ≡ padding k
@@ -122,19 +121,6 @@ pub chain_bytes_all : (x out : List ℕ) (i : ℕ) → i ≡ length x → length
     → out ≡ chain_bytes x
 chain_bytes_all x out i e h p =
     sym (take_all (4 * i) out (omega arith)) ∙ p ∙ ap chain_bytes (take_all i x (omega arith))
-
-pub bytes_below : (x : List ℕ) (k : ℕ) → slice_index (chain_bytes x) k < 256
-unfolding big_endian
-bytes_below [] k = omega arith
-bytes_below (w ∷ ws) zero = mod_below (w / 256 ^ 3) 256 (omega arith)
-bytes_below (w ∷ ws) (suc zero) = mod_below (w / 256 ^ 2) 256 (omega arith)
-bytes_below (w ∷ ws) (suc (suc zero)) = mod_below (w / 256) 256 (omega arith)
-bytes_below (w ∷ ws) (suc (suc (suc zero))) = mod_below (w / 1) 256 (omega arith)
-bytes_below (w ∷ ws) (suc (suc (suc (suc k)))) = bytes_below ws k
-
-pub digest_below : (x : List ℕ) (n : ℕ) (m : List ℕ) (k : ℕ) → slice_index (digest_from x n m) k < 256
-unfolding digest_from
-digest_below x n m k = bytes_below _ k
 
 length-chain_bytes : (x : List ℕ) → length (chain_bytes x) ≡ 4 * length x
 unfolding big_endian
