@@ -2,8 +2,7 @@
 
 OpenSSL looks once, at its start, which instructions it may use. So the harness hash.c runs in
 processes of two kinds, with and without OpenSSL's SHA instructions, which take turns. Build the
-library first, with `rt staticlib hash_c`. The kit's C library is looked for beside the guide that
-`rt doc` names, or is named by RATTLE_C_LIBRARY."""
+library first, with `rt lib` in crates/hash_c."""
 
 import os
 import statistics
@@ -12,7 +11,7 @@ import sys
 import tempfile
 
 BENCH = os.path.dirname(os.path.abspath(__file__))
-LIBRARY = os.path.join(BENCH, "..", "target", "staticlib", "libhash_c.a")
+LIBRARY = os.path.join(BENCH, "..", "crates", "hash_c", "out", "libhash_c.a")
 TURNS = 5
 WITH, WITHOUT = "with", "without"
 CAPABILITIES = {WITH: None, WITHOUT: ":~0x20000000"}  # all, or all but the SHA instructions
@@ -21,18 +20,9 @@ PERMUTATION = "Keccak permutation"
 LONG_SHA256 = "SHA-256, feed 1 MiB"
 
 
-def kit_library():
-    named = os.environ.get("RATTLE_C_LIBRARY")
-    if named:
-        return named
-    guide = subprocess.run(["rt", "doc"], stdout=subprocess.PIPE, check=True, text=True).stdout
-    kit = os.path.dirname(os.path.dirname(guide.strip()))
-    return os.path.join(kit, "lib", "librattle_c.a")
-
-
 def build(folder):
     harness = os.path.join(folder, "hash")
-    sources = [os.path.join(BENCH, "hash.c"), LIBRARY, kit_library()]
+    sources = [os.path.join(BENCH, "hash.c"), LIBRARY]
     subprocess.run(["cc", "-O3", "-o", harness] + sources + ["-lcrypto"], check=True)
     return harness
 
@@ -97,7 +87,7 @@ def check_kinds(medians):
 
 def main():
     if not os.path.exists(LIBRARY):
-        print("target/staticlib/libhash_c.a is missing: run `rt staticlib hash_c`", file=sys.stderr)
+        print("crates/hash_c/out/libhash_c.a is missing: run `rt lib` in crates/hash_c", file=sys.stderr)
         return 1
     with tempfile.TemporaryDirectory() as folder:
         medians = run_all(build(folder))

@@ -1,7 +1,7 @@
-"""Times target/bin/show against bench/show.c on the largest inputs, in one run.
+"""Times the program show against bench/show.c on the largest inputs, in one run.
 
 A run is a whole process, so each program's time for an empty input is taken off: what is left is
-its own time for the input. Build the program first, with `rt check show`."""
+its own time for the input. Build the program first, with `rt run` in crates/show."""
 
 import os
 import statistics
@@ -25,7 +25,7 @@ INPUTS = {
 def build(folder):
     baseline = os.path.join(folder, "show_c")
     subprocess.run(["cc", "-O3", "-o", baseline, os.path.join(ROOT, "bench", "show.c")], check=True)
-    return {"show": os.path.join(ROOT, "target", "bin", "show"), "C": baseline}
+    return {"show": os.path.join(ROOT, "crates", "show", "out", "show"), "C": baseline}
 
 
 def run_once(program, path):

@@ -134,7 +134,7 @@ def run(program, data):
 
 def main():
     parser = argparse.ArgumentParser(description=__doc__)
-    parser.add_argument("--program", default="target/bin/show")
+    parser.add_argument("--program", default="crates/show/out/show")
     parser.add_argument("--count", type=int, default=2000)
     parser.add_argument("--seed", type=int, default=None)
     options = parser.parse_args()

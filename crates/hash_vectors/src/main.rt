@@ -14,6 +14,7 @@ use hex::add_hex;
 use std::alloc::Global;
 use std::io;
 use std::io::{BufRead, BufReader};
+use std::process::ExitCode;
 
 fn answered_line(heap: Global, line: &str) -> Result<String, Fault> {
     let case = case_of(heap, line)?;
@@ -24,12 +25,12 @@ fn answered_line(heap: Global, line: &str) -> Result<String, Fault> {
 }
 
 // Says on standard error what is wrong with the line: the program then ends with status 1.
-fn fail(rt: &HostRuntime, line: &str, fault: Fault) -> io::Result<()> {
+fn fail(rt: &HostRuntime, line: &str, fault: Fault) -> io::Result<ExitCode> {
     eprintln!(rt; "hash_vectors: {fault}: {line}")?;
-    Err(io::Error::other("bad line"))
+    Ok(ExitCode::FAILURE)
 }
 
-fn main(rt: HostRuntime) -> io::Result<()> {
+fn main(rt: HostRuntime) -> io::Result<ExitCode> {
     let heap = rt.alloc();
     for line in BufReader::new(heap, rt.stdin())?.lines(heap) {
         let line = line?;
@@ -38,5 +39,5 @@ fn main(rt: HostRuntime) -> io::Result<()> {
             Err(fault) => return fail(&rt, line.as_str(), fault),
         }
     }
-    Ok(())
+    Ok(ExitCode::SUCCESS)
 }

@@ -1,12 +1,14 @@
 // Lists the envelope on standard input: place, kind and body length of each record.
 #![tactic(auto)]
 
-ghost use Rattle.std.specs.Prelude.{◌≡◌, true, is_err};
+ghost use Rattle.std.specs.Prelude.{◌≡◌};
+ghost use Rattle.std.specs.Process.{exit_status};
 
 use listing::{LONGEST, show};
 use std::alloc::Global;
 use std::io;
 use std::io::Read;
+use std::process::ExitCode;
 
 // One byte more than is listed tells that the input is too long, so no more is read.
 fn read_input<R: Read + Drop>(heap: Global, source: R) -> io::Result<Vec<u8>> {
@@ -15,12 +17,12 @@ fn read_input<R: Read + Drop>(heap: Global, source: R) -> io::Result<Vec<u8>> {
     Ok(input)
 }
 
-// Says on standard error what failed, and hands the error on: the program then ends with status 1.
-fn fail(rt: &HostRuntime, what: &str, error: io::Error) -> io::Result<()>
-    ensures { is_err result ≡ true }
+// Says on standard error what failed; the program then ends with status 1.
+fn fail(rt: &HostRuntime, what: &str, error: io::Error) -> ExitCode
+    ensures { exit_status result ≡ 1 }
 {
-    eprintln!(rt; "show: {what}: {error}")?;
-    Err(error)
+    let _ = eprintln!(rt; "show: {what}: {error}");
+    ExitCode::FAILURE
 }
 
 fn list_input(rt: &HostRuntime, input: &[u8]) -> io::Result<()> {
@@ -28,13 +30,13 @@ fn list_input(rt: &HostRuntime, input: &[u8]) -> io::Result<()> {
     rt.write_all(text.as_bytes())
 }
 
-fn main(rt: HostRuntime) -> io::Result<()> {
+fn main(rt: HostRuntime) -> ExitCode {
     let input = match read_input(rt.alloc(), rt.stdin()) {
         Ok(input) => input,
         Err(error) => return fail(&rt, "cannot read standard input", error),
     };
     match list_input(&rt, input.as_slice()) {
-        Ok(()) => Ok(()),
+        Ok(()) => ExitCode::SUCCESS,
         Err(error) => fail(&rt, "cannot write the listing", error),
     }
 }
