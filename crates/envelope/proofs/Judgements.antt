@@ -1,21 +1,17 @@
 -- What the judge keeps from record to record, and why its answer is exact. Assumes nothing.
-use Rattle.std.proofs.Common.{◌≡◌, ℕ, Bool, true, false, cond, ◌&&◌, leb, List, [], ◌∷◌, ◌++◌, length, Some, None, Option, sym, refl, ap, ◌∙◌, append-nil, arith}
-use Rattle.std.proofs.lemmas.List.{flat_map_more}
+use Rattle.std.proofs.Common.{◌≡◌, ℕ, Bool, true, false, cond, ◌&&◌, leb, List, [], ◌∷◌, length, Some, None, Option, sym, refl, ap, ◌∙◌, arith}
 use Rattle.std.proofs.lemmas.Bool.{false≢true, and_parts, leb-true, le-leb}
-use Rattle.std.specs.List.{flat_map}
 use Rattle.std.specs.Option.{ok_or}
 use Rattle.fault.specs.declared.Refusal.TheVariants.{NotOneCouple}
 use Rattle.fault.specs.Numbers.{Told}
 use Rattle.envelope.specs.declared.kind.Set.{Set}
 use Rattle.envelope.specs.declared.kind.Set.TheVariants.{S16, Rehearsal}
-use Rattle.envelope.specs.declared.tally.Seen.{Seen}
-use Rattle.envelope.specs.declared.tally.Seen.TheVariants.{Nothing, One, Several}
 use Rattle.envelope.specs.declared.tally.Tally.{Tally}
 use Rattle.envelope.specs.Entries.{Entry}
 use Rattle.envelope.specs.Judging.{Item, keys, signatures, days, Couples, same_set, only, coupled, couple_of, judged, judgement, Exact}
 use Rattle.envelope.specs.Law.{Faithful}
 use Rattle.envelope.specs.Reading.{Outcome, fault_at, reading}
-use Rattle.envelope.specs.Tallies.{Tallies, seen, more, each_seen}
+use Rattle.envelope.specs.Tallies.{Tallies}
 use Rattle.envelope.proofs.Faithfulness.{law}
 use Rattle.envelope.proofs.Readings.{Sofar}
 
@@ -24,27 +20,6 @@ pub record Counted (all : Outcome) (place : ℕ) (left : List ℕ) (t : Tally) :
   pub entries : List Entry
   pub sofar : Sofar all entries place left
   pub tallies : Tallies t entries
-
-more_seen : {X : Type 0} (xs : List X) (x : X) → seen (xs ++ x ∷ []) ≡ more (seen xs) x
-more_seen [] x = refl
-more_seen (y ∷ []) x = refl
-more_seen (y ∷ z ∷ xs) x = refl
-
-each_more : {X Y : Type 0} (f : X → Y) (s : Seen X) (x : X) → each_seen f (more s x) ≡ more (each_seen f s) (f x)
-each_more f Nothing x = refl
-each_more f (One y) x = refl
-each_more f Several x = refl
-
-module _ {X Y : Type 0} (f : X → Y) (g : Entry → List Y) (s : Seen X) (es : List Entry) (e : Entry) (before : each_seen f s ≡ seen (flat_map g es)) where
-  -- a record that counts
-  pub counts : (x : X) (t : Seen X) → t ≡ more s x → g e ≡ f x ∷ [] → each_seen f t ≡ seen (flat_map g (es ++ e ∷ []))
-  counts x t is new =
-      ap (each_seen f) is ∙ each_more f s x ∙ ap (λ o. more o (f x)) before ∙ sym (more_seen (flat_map g es) (f x))
-      ∙ ap (λ l. seen (flat_map g es ++ l)) (sym new) ∙ ap seen (flat_map_more g [] es e)
-
-  -- a record of another kind
-  pub counts_not : g e ≡ [] → each_seen f s ≡ seen (flat_map g (es ++ e ∷ []))
-  counts_not new = before ∙ ap seen (sym (append-nil (flat_map g es)) ∙ ap (λ l. flat_map g es ++ l) (sym new) ∙ flat_map_more g [] es e)
 
 same_set_true : (a b : Set) → same_set a b ≡ true → a ≡ b
 same_set_true S16 S16 e = refl

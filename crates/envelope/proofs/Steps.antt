@@ -1,10 +1,20 @@
 -- One step of a reading. Assumes nothing.
-use Rattle.std.proofs.Common.{◌≡◌, ℕ, suc, ◌+◌, ◌-◌, ◌≤◌, List, [], ◌∷◌, length, get_or, take, drop, Some, Ok, ap, ◌∙◌, arith}
+use Rattle.std.proofs.Common.{◌≡◌, ℕ, suc, ◌+◌, ◌-◌, ◌≤◌, List, [], ◌∷◌, length, get_or, take, drop, Some, None, Ok, Option, Result, ap, ◌∙◌, arith}
+use Rattle.std.specs.Option.{ok_or}
+use Rattle.std.specs.Result.{MatchResult}
 use Rattle.std.proofs.lemmas.List.{length-take-le, drop-drop, take_rest}
 use Rattle.std.proofs.lemmas.Bool.Decides.{nat_tests}
+use Rattle.fault.specs.declared.Fault.{Fault}
+use Rattle.fault.specs.declared.Refusal.{Refusal}
+use Rattle.fault.specs.declared.Refusal.TheVariants.{UnknownKind}
 use Rattle.envelope.specs.declared.kind.Kind.{Kind}
 use Rattle.envelope.specs.Kinds.{kind_of, body_length}
 use Rattle.envelope.specs.Reading.{next_at, Next}
+
+-- the kind of a byte, as `?` lets it through
+pub known_from : (o : Option Kind) (k : Kind) {r : Result Kind Refusal} → r ≡ ok_or o UnknownKind → MatchResult r (λ x. ◌≡◌ {A = Result Kind Fault} (Ok k) (Ok x)) (λ e. ⊥) → Some k ≡ o
+known_from None k is through = absurd (rw is at through)
+known_from (Some x) k is through = let same = rw is at through in grind arith
 
 -- all is a byte of kind k, its body and the rest
 pub record Cut (all : List ℕ) (k : Kind) (body rest : List ℕ) : Type 0 where

@@ -4,7 +4,6 @@
 pub mod couple;
 pub mod judge;
 pub mod kind;
-mod laws;
 pub mod reader;
 pub mod reading;
 pub mod record;

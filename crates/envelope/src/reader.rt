@@ -5,7 +5,6 @@ ghost use Rattle.envelope.specs.Law.{Faithful};
 ghost use Rattle.envelope.specs.Reading.{answered, fault_at, next_at, reading, taken};
 
 use crate::kind::Kind;
-use crate::laws::reading_is_faithful;
 use crate::record::{Part, Record};
 use fault::{Fault, Origin, Refusal};
 
@@ -35,7 +34,6 @@ impl<'a> Reader<'a> {
         ensures rest { result.rest.now ≡ envelope.now }
         ensures faithful { Faithful envelope.now (reading envelope.now) }
     {
-        reading_is_faithful(envelope);
         Reader {
             place: 0,
             rest: envelope,
@@ -52,9 +50,7 @@ impl<'a> Reader<'a> {
         let [first, rest @ ..] = self.rest else {
             return Ok(None);
         };
-        let Some(kind) = Kind::of(*first) else {
-            return Err(fault_at(Refusal::UnknownKind, place));
-        };
+        let kind = Kind::try_from(*first).map_err(|refusal| fault_at(refusal, place))?;
         let length = kind.body_length();
         if rest.len() < length {
             return Err(fault_at(Refusal::BodyCutShort, place));

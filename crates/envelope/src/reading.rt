@@ -2,7 +2,8 @@
 ghost use Rattle.std.specs.Prelude.{◌≡◌, IfOk};
 ghost use Rattle.envelope.specs.Held.{held};
 ghost use Rattle.envelope.specs.Law.{Faithful};
-ghost use Rattle.envelope.specs.Reading.{reading, reading_from};
+ghost use Rattle.envelope.specs.Readers.{remaining};
+ghost use Rattle.envelope.specs.Reading.{reading};
 
 use crate::reader::Reader;
 use crate::record::Record;
@@ -18,25 +19,17 @@ pub struct Reading<'a> {
 
 // All that a reader has still to give.
 fn collect<'a>(heap: Global, mut reader: Reader<'a>) -> Result<Reading<'a>, AllocError>
-    ensures { IfOk result (λ x. held x ≡ reading_from reader.entry.place reader.entry.rest.now) }
+    ensures { IfOk result (λ x. held x ≡ remaining reader.entry) }
 {
     let mut records = Vec::new(heap);
-    loop {
-        let next = match reader.next() {
-            Ok(next) => next,
-            Err(fault) => return Ok(Reading {
-                records,
-                fault: Some(fault),
-            }),
-        };
-        let Some(record) = next else {
-            return Ok(Reading {
-                records,
-                fault: None,
-            });
-        };
-        records.push(record)?;
-    }
+    let fault = loop {
+        match reader.next() {
+            Ok(Some(record)) => records.push(record)?,
+            Ok(None) => break None,
+            Err(fault) => break Some(fault),
+        }
+    };
+    Ok(Reading { records, fault })
 }
 
 // Reads an envelope from end to end.

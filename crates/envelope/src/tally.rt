@@ -9,33 +9,29 @@ use crate::couple::Couple;
 use crate::kind::Set;
 use crate::record::{Part, Record};
 
-// None, one or several of something.
+// There are several, where one was wanted.
 #[derive(Clone, Copy)]
-pub enum Seen<T> {
-    Nothing,
-    One(T),
-    Several,
-}
+pub struct Several;
 
-impl<T: Copy> Seen<T> {
-    // What is seen with one more.
-    pub fn and(self, value: T) -> Seen<T>
-        ensures { result ≡ more self value }
-    {
-        match self {
-            Seen::Nothing => Seen::One(value),
-            Seen::One(_) => Seen::Several,
-            Seen::Several => Seen::Several,
-        }
+// The only one so far, if there is one.
+type Only<T> = Result<Option<T>, Several>;
+
+// What that is with one more.
+fn and<T: Copy>(only: Only<T>, value: T) -> Only<T>
+    ensures { result ≡ more only value }
+{
+    match only? {
+        None => Ok(Some(value)),
+        Some(_) => Err(Several),
     }
 }
 
 // What was read so far, by what it is.
 #[derive(Clone, Copy)]
 pub struct Tally<'a> {
-    keys: Seen<(Set, Part<'a>)>,
-    signatures: Seen<(Set, Part<'a>)>,
-    days: Seen<Part<'a>>,
+    keys: Only<(Set, Part<'a>)>,
+    signatures: Only<(Set, Part<'a>)>,
+    days: Only<Part<'a>>,
 }
 
 impl<'a> Tally<'a> {
@@ -43,9 +39,9 @@ impl<'a> Tally<'a> {
         ensures { Tallies result [] }
     {
         Tally {
-            keys: Seen::Nothing,
-            signatures: Seen::Nothing,
-            days: Seen::Nothing,
+            keys: Ok(None),
+            signatures: Ok(None),
+            days: Ok(None),
         }
     }
 
@@ -53,9 +49,9 @@ impl<'a> Tally<'a> {
         ensures { (es : List Entry) → Tallies self.old es → Tallies self.new (es ++ entry «record».entry ∷ []) }
     {
         match record {
-            Record::Key(set, part) => self.keys = self.keys.and((set, part)),
-            Record::Signature(set, part) => self.signatures = self.signatures.and((set, part)),
-            Record::Day(part) => self.days = self.days.and(part),
+            Record::Key(set, part) => self.keys = and(self.keys, (set, part)),
+            Record::Signature(set, part) => self.signatures = and(self.signatures, (set, part)),
+            Record::Day(part) => self.days = and(self.days, part),
         }
     }
 
@@ -64,14 +60,13 @@ impl<'a> Tally<'a> {
         ensures { (es : List Entry) → Tallies self.now es → option_map couple_items result ≡ couple_of es }
     {
         match (self.keys, self.signatures, self.days) {
-            (Seen::One((set, key)), Seen::One((other, signature)), Seen::Nothing | Seen::One(_))
-                if set == other => {
-                Some(Couple {
+            (Ok(Some((set, key))), Ok(Some((other, signature))), Ok(_)) if set == other => Some(
+                Couple {
                     set,
                     key,
                     signature,
-                })
-            }
+                },
+            ),
             _ => None,
         }
     }

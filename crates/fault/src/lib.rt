@@ -5,6 +5,7 @@ ghost use Rattle.std.specs.Prelude.{◌≡◌, Some};
 ghost use Rattle.fault.specs.Lines.{refusal_line};
 ghost use Rattle.fault.specs.Numbers.{letter, number, told};
 
+use std::error::Error;
 use std::fmt;
 
 // Why a call refuses. The calls and their conditions are listed in docs/REFUSALS.md.
@@ -26,11 +27,12 @@ pub enum Refusal {
     NotOneCouple = 14,
 }
 
-impl Refusal {
-    pub fn number(self) -> u8
-        ensures { result ≡ number self }
-    {
-        self as u8
+// The number of a refusal.
+impl From<Refusal> for u8 {
+    ghost from_gives = { λ r n. n ≡ number r };
+
+    fn from(refusal: Refusal) -> u8 {
+        refusal as u8
     }
 }
 
@@ -41,14 +43,15 @@ pub enum Origin {
     Scheme,
 }
 
-impl Origin {
-    pub fn letter(self) -> &'static str
-        ensures { result.now ≡ letter self }
-    {
-        match self {
+// The letter of an origin.
+impl fmt::Display for Origin {
+    ghost output = { λ o. Some (letter o) };
+
+    fn fmt<W: fmt::Write>(&self, f: &mut fmt::Formatter<W>) -> fmt::Result {
+        f.write_str(match self {
             Origin::Envelope => "E",
             Origin::Scheme => "S",
-        }
+        })
     }
 }
 
@@ -64,12 +67,14 @@ impl fmt::Display for Fault {
     ghost output = { λ f. Some (refusal_line (told f)) };
 
     fn fmt<W: fmt::Write>(&self, f: &mut fmt::Formatter<W>) -> fmt::Result {
-        let number = self.refusal.number();
-        let letter = self.origin.letter();
+        let number = u8::from(self.refusal);
+        let origin = self.origin;
         let place = self.place;
-        write!(f, "refusal {number} layer {letter} place {place}")
+        write!(f, "refusal {number} layer {origin} place {place}")
     }
 }
+
+impl Error for Fault {}
 
 #[cfg(test)]
 mod tests {

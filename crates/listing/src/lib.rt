@@ -21,26 +21,19 @@ pub const TOO_LONG: &str = "file too long\n";
 fn add_record(text: &mut String, record: &Record) -> Result<(), AllocError>
     ensures { OnOk result (string_bytes text.new ≡ string_bytes text.old ++ record_line (entry «record».now)) }
 {
-    let kind = record.kind().byte();
+    let kind = u8::from(record.kind());
     let part = record.part();
     let place = part.place;
     let length = part.bytes.len();
-    match writeln!(text, "{place} {kind} {length}") {
-        Ok(()) => Ok(()),
-        Err(_) => Err(AllocError),
-    }
+    writeln!(text, "{place} {kind} {length}")
 }
 
 fn add_last(text: &mut String, count: usize, fault: Option<Fault>) -> Result<(), AllocError>
     ensures { OnOk result (string_bytes text.new ≡ string_bytes text.old ++ last_line count (option_map told fault)) }
 {
-    let written = match fault {
+    match fault {
         None => writeln!(text, "records {count}"),
         Some(fault) => writeln!(text, "{fault}"),
-    };
-    match written {
-        Ok(()) => Ok(()),
-        Err(_) => Err(AllocError),
     }
 }
 
@@ -49,7 +42,7 @@ pub fn list(heap: Global, reading: &Reading) -> Result<String, AllocError>
     ensures { IfOk result (λ s. string_bytes s ≡ listing (held reading.now)) }
 {
     let mut text = String::from_str(heap, "place kind length\n")?;
-    for record in reading.records.iter() {
+    for record in &reading.records {
         add_record(&mut text, record)?;
     }
     add_last(&mut text, reading.records.len(), reading.fault)?;

@@ -1,23 +1,16 @@
-use Rattle.std.proofs.Common.{map, sym, ap}
-use Rattle.envelope.proofs.Readings.{begun, pushed, took, shorter, one_more, ended, stopped}
-use Rattle.envelope.specs.Entries.{entry}
+use Rattle.std.proofs.Common.{sym}
+use Rattle.envelope.proofs.Readings.{pushed, took, one_more, ended, stopped}
+use Rattle.envelope.proofs.reading.collect.Goals.{in-Ok-None, in-Err}
 use Rattle.envelope.proofs.reading.collect.Goals as goal
 
-pub loop-next-init : goal.loop-next-init
-loop-next-init c = begun _ _ _ (ap (map entry) c.new-records.ensures.items)
+pub loop-record-preserved : goal.loop-record-preserved
+loop-record-preserved c =
+    let told = c.in-Ok-Some.ensures in
+    one_more (took _ _ c.in-Ok-Some.field-0-is told.answers told.place told.rest) c.loop-record.invariant (pushed _ _ _ c.in_ok-push-in-Ok-Some.ensures.items)
 
-pub returns-in-Err : goal.returns-in-Err
-returns-in-Err c = sym (stopped c.loop-next.invariant _ c.in-Err.ensures.answers)
-
-pub returns-in_default : goal.returns-in_default
-returns-in_default c = sym (ended c.loop-next.invariant (rw c.in_default.is at c.in-Ok.ensures.answers))
-
-pub loop-next-smaller : goal.loop-next-smaller
-loop-next-smaller c =
-    let told = c.in-Ok.ensures in
-    shorter (took _ _ c.in-Some.is told.answers told.place told.rest)
-
-pub loop-next-preserved : goal.loop-next-preserved
-loop-next-preserved c =
-    let told = c.in-Ok.ensures in
-    one_more (took _ _ c.in-Some.is told.answers told.place told.rest) c.loop-next.invariant (pushed _ _ _ c.in_ok-push.ensures.items)
+pub returns : goal.returns
+returns c =
+    elim c.match-next.branch [
+      | in-Ok-None w ↦ (rw w.fault-is (sym (ended c.loop-record.invariant (rw w.in-Ok-None.field-0-is at w.in-Ok-None.ensures.answers))))
+      | in-Err w ↦ (rw w.fault-is (sym (stopped c.loop-record.invariant _ w.in-Err.ensures.answers)))
+    ]

@@ -4,9 +4,9 @@ use Rattle.envelope.specs.Entries.{entry}
 use Rattle.envelope.specs.Reading.{reading_from}
 use Rattle.envelope.proofs.reading.collect.Given as goal
 
-abbrev pub invariant-loop-next : goal.invariant-loop-next
-invariant-loop-next l =
+abbrev pub invariant-loop-record : goal.invariant-loop-record
+invariant-loop-record l =
     Sofar (reading_from l.initial.reader.place l.initial.reader.rest.now) (map entry (vec_items l.records)) l.reader.place l.reader.rest.now
 
-abbrev pub decreases-loop-next : goal.decreases-loop-next
-decreases-loop-next l = length l.reader.rest.now
+abbrev pub decreases-loop-record : goal.decreases-loop-record
+decreases-loop-record l = length l.reader.rest.now
