@@ -2,6 +2,7 @@
 use crate::fault::Fault;
 use crate::message::message_of;
 use std::alloc::Global;
+use std::array;
 use std::str::FromStr;
 
 #[derive(Clone, Copy)]
@@ -63,12 +64,8 @@ fn feeds_of(heap: Global, word: &str) -> Result<Option<Vec<usize>>, Fault> {
 
 pub(crate) fn case_of(heap: Global, line: &str) -> Result<Case, Fault> {
     let mut words = line.splitn(4, ' ');
-    let (Some(algorithm), Some(message), Some(feeds), Some(reads)) = (
-        words.next(),
-        words.next(),
-        words.next(),
-        words.next(),
-    ) else {
+    let words: [Option<&str>; 4] = array::from_fn(|_| words.next());
+    let [Some(algorithm), Some(message), Some(feeds), Some(reads)] = words else {
         return Err(Fault::Words);
     };
     Ok(Case {
