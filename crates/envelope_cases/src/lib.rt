@@ -9,6 +9,7 @@ mod tests {
     use envelope::record::Record;
     use listing::{LONGEST, show};
     use std::alloc::{AllocError, Global};
+    use std::iter;
     use std::process::Abort;
     use std::test::Fail;
 
@@ -32,11 +33,7 @@ mod tests {
         fill: 170,
     };
 
-    const OTHER_KEY: Raw = Raw {
-        kind: 1,
-        length: 32,
-        fill: 171,
-    };
+    const OTHER_KEY: Raw = Raw { fill: 171, ..KEY };
 
     const SIGNATURE: Raw = Raw {
         kind: 2,
@@ -67,9 +64,8 @@ mod tests {
 
     const fn short(whole: Raw) -> Raw {
         Raw {
-            kind: whole.kind,
             length: whole.length.saturating_sub(1),
-            fill: whole.fill,
+            ..whole
         }
     }
 
@@ -77,14 +73,13 @@ mod tests {
         let mut bytes = Vec::new(heap);
         for record in records {
             bytes.push(record.kind)?;
-            for _ in 0..record.length {
-                bytes.push(record.fill)?;
-            }
+            bytes.extend(iter::repeat_n(record.fill, record.length))?;
         }
         Ok(bytes)
     }
 
-    fn lists(rt: &impl Abort, heap: Global, records: &[Raw], lines: &str) -> Result<(), Fail> {
+    fn lists(rt: &(impl Abort + AllocGlobal), records: &[Raw], lines: &str) -> Result<(), Fail> {
+        let heap = rt.alloc();
         let bytes = written(heap, records)?;
         let expected = format!(in heap; "place kind length\n{lines}\n")?;
         let text = show(heap, bytes.as_slice())?;
@@ -94,12 +89,10 @@ mod tests {
 
     #[test]
     fn whole_records_are_listed(rt: HostRuntime) -> Result<(), Fail> {
-        let heap = rt.alloc();
-        lists(&rt, heap, &[], "records 0")?;
-        lists(&rt, heap, &[DAY, KEY_R], "0 5 4\n5 3 17\nrecords 2")?;
+        lists(&rt, &[], "records 0")?;
+        lists(&rt, &[DAY, KEY_R], "0 5 4\n5 3 17\nrecords 2")?;
         lists(
             &rt,
-            heap,
             &[KEY, SIGNATURE, KEY_R, SIGNATURE_R, DAY],
             "0 1 32\n33 2 5904\n5938 3 17\n5956 4 648\n6605 5 4\nrecords 5",
         )
@@ -107,19 +100,16 @@ mod tests {
 
     #[test]
     fn an_unknown_kind_stops_the_listing(rt: HostRuntime) -> Result<(), Fail> {
-        let heap = rt.alloc();
         for kind in [0, 6, 255] {
-            lists(&rt, heap, &[lone(kind)], "refusal 12 layer E place 0")?;
-            lists(&rt, heap, &[lone(kind), DAY], "refusal 12 layer E place 0")?;
+            lists(&rt, &[lone(kind)], "refusal 12 layer E place 0")?;
+            lists(&rt, &[lone(kind), DAY], "refusal 12 layer E place 0")?;
             lists(
                 &rt,
-                heap,
                 &[DAY, lone(kind), KEY_R],
                 "0 5 4\nrefusal 12 layer E place 5",
             )?;
             lists(
                 &rt,
-                heap,
                 &[DAY, KEY_R, lone(kind)],
                 "0 5 4\n5 3 17\nrefusal 12 layer E place 23",
             )?;
@@ -129,19 +119,16 @@ mod tests {
 
     #[test]
     fn a_body_cut_short_stops_the_listing(rt: HostRuntime) -> Result<(), Fail> {
-        let heap = rt.alloc();
         for whole in [KEY, SIGNATURE, KEY_R, SIGNATURE_R, DAY] {
-            lists(&rt, heap, &[lone(whole.kind)], "refusal 13 layer E place 0")?;
-            lists(&rt, heap, &[short(whole)], "refusal 13 layer E place 0")?;
+            lists(&rt, &[lone(whole.kind)], "refusal 13 layer E place 0")?;
+            lists(&rt, &[short(whole)], "refusal 13 layer E place 0")?;
             lists(
                 &rt,
-                heap,
                 &[DAY, lone(whole.kind)],
                 "0 5 4\nrefusal 13 layer E place 5",
             )?;
             lists(
                 &rt,
-                heap,
                 &[DAY, short(whole)],
                 "0 5 4\nrefusal 13 layer E place 5",
             )?;
@@ -149,11 +136,11 @@ mod tests {
         Ok(())
     }
 
-    fn stops(rt: &impl Abort, reader: &mut Reader, heap: Global, line: &str) -> Result<(), Fail> {
+    fn stops(rt: &(impl Abort + AllocGlobal), reader: &mut Reader, line: &str) -> Result<(), Fail> {
         let Err(fault) = reader.next() else {
             return Err(Fail::new("no fault"));
         };
-        assert_eq!(rt; format!(in heap; "{fault}")?.as_str(), line);
+        assert_eq!(rt; format!(in rt.alloc(); "{fault}")?.as_str(), line);
         Ok(())
     }
 
@@ -163,8 +150,8 @@ mod tests {
         let bytes = written(heap, &[DAY, lone(0), KEY_R])?;
         let mut reader = Reader::new(bytes.as_slice());
         assert!(rt; matches!(reader.next(), Ok(Some(Record::Day(_)))));
-        stops(&rt, &mut reader, heap, "refusal 12 layer E place 5")?;
-        stops(&rt, &mut reader, heap, "refusal 12 layer E place 5")?;
+        stops(&rt, &mut reader, "refusal 12 layer E place 5")?;
+        stops(&rt, &mut reader, "refusal 12 layer E place 5")?;
         let bytes = written(heap, &[KEY_R])?;
         let mut reader = Reader::new(bytes.as_slice());
         assert!(rt; matches!(reader.next(), Ok(Some(Record::Key(Set::Rehearsal, _)))));
@@ -176,9 +163,7 @@ mod tests {
     // 72 records of 8,192 bytes in all.
     fn longest(heap: Global) -> Result<Vec<u8>, AllocError> {
         let mut bytes = written(heap, &[SIGNATURE, SIGNATURE_R, SIGNATURE_R, SIGNATURE_R])?;
-        for _ in 0..68 {
-            bytes.extend_from_slice(written(heap, &[DAY])?.as_slice())?;
-        }
+        bytes.extend_from_slice(written(heap, &[DAY; 68])?.as_slice())?;
         Ok(bytes)
     }
 
@@ -210,38 +195,56 @@ mod tests {
             length: 8191,
             fill: 7,
         };
-        lists(&rt, heap, &[garbage], "refusal 12 layer E place 0")?;
+        lists(&rt, &[garbage], "refusal 12 layer E place 0")?;
         let bytes = written(heap, &[garbage, lone(0)])?;
         assert_eq!(rt; show(heap, bytes.as_slice())?.as_str(), "file too long\n");
         Ok(())
     }
 
-    fn accepts(
-        rt: &impl Abort,
-        heap: Global,
-        records: &[Raw],
+    // A key and a signature of one set.
+    #[derive(Clone, Copy)]
+    struct RawCouple {
         set: Set,
         key: Raw,
         signature: Raw,
+    }
+
+    const COUPLE: RawCouple = RawCouple {
+        set: Set::S16,
+        key: KEY,
+        signature: SIGNATURE,
+    };
+
+    const COUPLE_R: RawCouple = RawCouple {
+        set: Set::Rehearsal,
+        key: KEY_R,
+        signature: SIGNATURE_R,
+    };
+
+    // The place is that of the signature.
+    fn accepts(
+        rt: &(impl Abort + AllocGlobal),
+        records: &[Raw],
+        expected: RawCouple,
         place: usize,
     ) -> Result<(), Fail> {
+        let heap = rt.alloc();
         let bytes = written(heap, records)?;
         let Ok(couple) = judge(bytes.as_slice()) else {
             return Err(Fail::new("refused"));
         };
-        assert_eq!(rt; couple.set, set);
+        assert_eq!(rt; couple.set, expected.set);
         assert_eq!(rt; couple.signature.place, place);
-        // a record is its kind byte and its part
-        let expected = written(heap, &[key, signature])?;
-        let mut found = vec![in heap; key.kind]?;
-        found.extend_from_slice(couple.key.bytes)?;
-        found.push(signature.kind)?;
-        found.extend_from_slice(couple.signature.bytes)?;
-        assert!(rt; found.as_slice() == expected.as_slice());
+        let RawCouple { key, signature, .. } = expected;
+        let key = vec![in heap; key.fill; key.length]?;
+        assert!(rt; couple.key.bytes == key.as_slice());
+        let signature = vec![in heap; signature.fill; signature.length]?;
+        assert!(rt; couple.signature.bytes == signature.as_slice());
         Ok(())
     }
 
-    fn refuses(rt: &impl Abort, heap: Global, records: &[Raw], line: &str) -> Result<(), Fail> {
+    fn refuses(rt: &(impl Abort + AllocGlobal), records: &[Raw], line: &str) -> Result<(), Fail> {
+        let heap = rt.alloc();
         let bytes = written(heap, records)?;
         let Err(fault) = judge(bytes.as_slice()) else {
             return Err(Fail::new("accepted"));
@@ -252,147 +255,54 @@ mod tests {
 
     #[test]
     fn a_couple_of_one_set_is_accepted_in_any_order(rt: HostRuntime) -> Result<(), Fail> {
-        let heap = rt.alloc();
-        accepts(&rt, heap, &[KEY, SIGNATURE], Set::S16, KEY, SIGNATURE, 33)?;
-        accepts(&rt, heap, &[SIGNATURE, KEY], Set::S16, KEY, SIGNATURE, 0)?;
-        accepts(
-            &rt,
-            heap,
-            &[DAY, KEY, SIGNATURE],
-            Set::S16,
-            KEY,
-            SIGNATURE,
-            38,
-        )?;
-        accepts(
-            &rt,
-            heap,
-            &[KEY, DAY, SIGNATURE],
-            Set::S16,
-            KEY,
-            SIGNATURE,
-            38,
-        )?;
-        accepts(
-            &rt,
-            heap,
-            &[KEY, SIGNATURE, DAY],
-            Set::S16,
-            KEY,
-            SIGNATURE,
-            33,
-        )?;
-        accepts(
-            &rt,
-            heap,
-            &[KEY_R, SIGNATURE_R],
-            Set::Rehearsal,
-            KEY_R,
-            SIGNATURE_R,
-            18,
-        )?;
-        accepts(
-            &rt,
-            heap,
-            &[SIGNATURE_R, DAY, KEY_R],
-            Set::Rehearsal,
-            KEY_R,
-            SIGNATURE_R,
-            0,
-        )
+        accepts(&rt, &[KEY, SIGNATURE], COUPLE, 33)?;
+        accepts(&rt, &[SIGNATURE, KEY], COUPLE, 0)?;
+        accepts(&rt, &[DAY, KEY, SIGNATURE], COUPLE, 38)?;
+        accepts(&rt, &[KEY, DAY, SIGNATURE], COUPLE, 38)?;
+        accepts(&rt, &[KEY, SIGNATURE, DAY], COUPLE, 33)?;
+        accepts(&rt, &[KEY_R, SIGNATURE_R], COUPLE_R, 18)?;
+        accepts(&rt, &[SIGNATURE_R, DAY, KEY_R], COUPLE_R, 0)
     }
 
     #[test]
     fn whole_records_that_make_no_couple_are_refused(rt: HostRuntime) -> Result<(), Fail> {
-        let heap = rt.alloc();
-        refuses(&rt, heap, &[], "refusal 14 layer E place 0")?;
-        // no key, no signature, neither
-        refuses(&rt, heap, &[SIGNATURE_R], "refusal 14 layer E place 649")?;
-        refuses(&rt, heap, &[KEY_R, DAY], "refusal 14 layer E place 23")?;
-        refuses(&rt, heap, &[DAY], "refusal 14 layer E place 5")?;
-        // several keys or signatures, equal ones too
-        refuses(
-            &rt,
-            heap,
-            &[KEY, OTHER_KEY, SIGNATURE],
-            "refusal 14 layer E place 5971",
-        )?;
-        refuses(
-            &rt,
-            heap,
-            &[KEY, KEY, SIGNATURE],
-            "refusal 14 layer E place 5971",
-        )?;
-        refuses(
-            &rt,
-            heap,
-            &[KEY_R, SIGNATURE_R, SIGNATURE_R],
-            "refusal 14 layer E place 1316",
-        )?;
-        refuses(
-            &rt,
-            heap,
-            &[KEY_R, KEY_R, KEY_R, SIGNATURE_R],
-            "refusal 14 layer E place 703",
-        )?;
-        // another set
-        refuses(
-            &rt,
-            heap,
-            &[KEY, SIGNATURE_R],
-            "refusal 14 layer E place 682",
-        )?;
-        refuses(
-            &rt,
-            heap,
-            &[KEY_R, SIGNATURE],
-            "refusal 14 layer E place 5923",
-        )?;
-        refuses(
-            &rt,
-            heap,
-            &[KEY, SIGNATURE, KEY_R, SIGNATURE_R],
-            "refusal 14 layer E place 6605",
-        )?;
-        refuses(
-            &rt,
-            heap,
-            &[KEY, SIGNATURE, KEY_R],
-            "refusal 14 layer E place 5956",
-        )?;
-        // several days
-        refuses(
-            &rt,
-            heap,
-            &[DAY, KEY_R, SIGNATURE_R, DAY],
-            "refusal 14 layer E place 677",
-        )
+        let cases: &[(&[Raw], usize)] = &[
+            (&[], 0),
+            // no key, no signature, neither
+            (&[SIGNATURE_R], 649),
+            (&[KEY_R, DAY], 23),
+            (&[DAY], 5),
+            // several keys or signatures, equal ones too
+            (&[KEY, OTHER_KEY, SIGNATURE], 5971),
+            (&[KEY, KEY, SIGNATURE], 5971),
+            (&[KEY_R, SIGNATURE_R, SIGNATURE_R], 1316),
+            (&[KEY_R, KEY_R, KEY_R, SIGNATURE_R], 703),
+            // another set
+            (&[KEY, SIGNATURE_R], 682),
+            (&[KEY_R, SIGNATURE], 5923),
+            (&[KEY, SIGNATURE, KEY_R, SIGNATURE_R], 6605),
+            (&[KEY, SIGNATURE, KEY_R], 5956),
+            // several days
+            (&[DAY, KEY_R, SIGNATURE_R, DAY], 677),
+        ];
+        for (records, place) in cases {
+            let line = format!(in rt.alloc(); "refusal 14 layer E place {place}")?;
+            refuses(&rt, records, line.as_str())?;
+        }
+        Ok(())
     }
 
     #[test]
     fn a_fault_of_the_reading_comes_before_a_missing_couple(rt: HostRuntime) -> Result<(), Fail> {
-        let heap = rt.alloc();
+        refuses(&rt, &[KEY_R, KEY_R, lone(0)], "refusal 12 layer E place 36")?;
         refuses(
             &rt,
-            heap,
-            &[KEY_R, KEY_R, lone(0)],
-            "refusal 12 layer E place 36",
-        )?;
-        refuses(
-            &rt,
-            heap,
             &[KEY_R, SIGNATURE_R, lone(6)],
             "refusal 12 layer E place 667",
         )?;
+        refuses(&rt, &[DAY, DAY, short(KEY)], "refusal 13 layer E place 10")?;
         refuses(
             &rt,
-            heap,
-            &[DAY, DAY, short(KEY)],
-            "refusal 13 layer E place 10",
-        )?;
-        refuses(
-            &rt,
-            heap,
             &[KEY_R, SIGNATURE_R, lone(5)],
             "refusal 13 layer E place 667",
         )

@@ -10,6 +10,7 @@ ghost use Rattle.hash.specs.Shake128.{permuted_times, shake128};
 
 use hash::{Feeder, Hash, Mgf1Sha256, Reader, Sha256, Shake128, State, expand, permute};
 
+// C has no type parameters, so each hash has a function of its own.
 #[unsafe(no_mangle)]
 pub extern "C" fn hash_shake128(input: &[u8], out: &mut [u8])
     ensures { out.new ≡ front (length out.old) (shake128 input.now) }

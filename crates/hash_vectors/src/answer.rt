@@ -1,28 +1,11 @@
 // The answer to a case: all bytes that are read.
-use crate::case::{Algorithm, Case, Feeds, Reads};
+use crate::case::{Algorithm, Case};
 use crate::fault::Fault;
 use hash::{Buffered, Feeder, Hash, Mgf1Sha256, Reader, Sha256, Shake128};
 use std::alloc::{AllocError, Global};
+use std::iter;
 
-// Cuts pieces of these lengths off the front, and answers the rest.
-fn cut_once<'a>(
-    pieces: &mut Vec<&'a [u8]>,
-    message: &'a [u8],
-    lengths: &[usize],
-) -> Result<&'a [u8], AllocError> {
-    let mut rest = message;
-    for length in lengths {
-        if rest.is_empty() {
-            break;
-        }
-        let (piece, behind) = rest.split_at(rest.len().min(*length));
-        pieces.push(piece)?;
-        rest = behind;
-    }
-    Ok(rest)
-}
-
-// Not all lengths are 0, so each turn takes a byte, and there are at most as many turns as bytes.
+// Each round of the lengths takes a byte, since not all are 0: as many rounds as bytes are enough.
 fn cut_pieces<'a>(
     heap: Global,
     message: &'a [u8],
@@ -30,11 +13,13 @@ fn cut_pieces<'a>(
 ) -> Result<Vec<&'a [u8]>, AllocError> {
     let mut pieces = Vec::new(heap);
     let mut rest = message;
-    for _ in 0..message.len() {
+    for length in iter::repeat_n(lengths, message.len()).flatten() {
         if rest.is_empty() {
             break;
         }
-        rest = cut_once(&mut pieces, rest, lengths)?;
+        let (piece, behind) = rest.split_at(rest.len().min(*length));
+        pieces.push(piece)?;
+        rest = behind;
     }
     Ok(pieces)
 }
@@ -42,8 +27,8 @@ fn cut_pieces<'a>(
 fn pieces_of(heap: Global, case: &Case) -> Result<Vec<&[u8]>, AllocError> {
     let message = case.message.as_slice();
     match &case.feeds {
-        Feeds::Whole => Ok(vec![in heap; message]?),
-        Feeds::Pieces(lengths) => cut_pieces(heap, message, lengths.as_slice()),
+        None => Ok(vec![in heap; message]?),
+        Some(lengths) => cut_pieces(heap, message, lengths.as_slice()),
     }
 }
 
@@ -65,10 +50,9 @@ fn reader_of<H: Hash>(pieces: &[&[u8]]) -> <H::Feeder as Feeder>::Reader {
 
 fn read_pieces<R: Reader + Drop>(
     heap: Global,
-    reader: R,
+    mut reader: R,
     lengths: &[usize],
 ) -> Result<Vec<u8>, Fault> {
-    let mut reader = reader;
     let mut all = Vec::new(heap);
     for length in lengths {
         let mut piece = vec![in heap; 0; *length]?;
@@ -82,17 +66,18 @@ fn row<H: Hash>(heap: Global, pieces: &[&[u8]], lengths: &Vec<usize>) -> Result<
     read_pieces(heap, reader_of::<H>(pieces), lengths.as_slice())
 }
 
+// Each hash is a type of its own, so the call of each is written out.
 pub(crate) fn answer(heap: Global, case: &Case) -> Result<Vec<u8>, Fault> {
     let pieces = pieces_of(heap, case)?;
     let fed = pieces.as_slice();
     match (case.algorithm, &case.reads) {
-        (Algorithm::Sha256, Reads::Digest) => digest(heap, fed),
-        (Algorithm::Shake128, Reads::Pieces(lengths)) => row::<Shake128>(heap, fed, lengths),
-        (Algorithm::Mgf1, Reads::Pieces(lengths)) => row::<Mgf1Sha256>(heap, fed, lengths),
-        (Algorithm::BufferedShake128, Reads::Pieces(lengths)) => {
+        (Algorithm::Sha256, None) => digest(heap, fed),
+        (Algorithm::Shake128, Some(lengths)) => row::<Shake128>(heap, fed, lengths),
+        (Algorithm::Mgf1, Some(lengths)) => row::<Mgf1Sha256>(heap, fed, lengths),
+        (Algorithm::BufferedShake128, Some(lengths)) => {
             row::<Buffered<Shake128>>(heap, fed, lengths)
         }
-        (Algorithm::BufferedMgf1, Reads::Pieces(lengths)) => {
+        (Algorithm::BufferedMgf1, Some(lengths)) => {
             row::<Buffered<Mgf1Sha256>>(heap, fed, lengths)
         }
         _ => Err(Fault::Reads),

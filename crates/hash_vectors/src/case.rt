@@ -2,6 +2,8 @@
 use crate::fault::Fault;
 use crate::message::message_of;
 use std::alloc::Global;
+use std::array;
+use std::str::FromStr;
 
 #[derive(Clone, Copy)]
 pub(crate) enum Algorithm {
@@ -12,101 +14,64 @@ pub(crate) enum Algorithm {
     BufferedMgf1,
 }
 
-// How the message is fed.
-#[derive(Drop)]
-pub(crate) enum Feeds {
-    Whole,
-    // in pieces of these lengths, from the first again until the message ends; not all are 0
-    Pieces(Vec<usize>),
-}
+impl FromStr for Algorithm {
+    type Err = Fault;
 
-// What is read.
-#[derive(Drop)]
-pub(crate) enum Reads {
-    Digest,
-    Pieces(Vec<usize>),
+    fn from_str(s: &str) -> Result<Algorithm, Fault> {
+        match s {
+            "sha256" => Ok(Algorithm::Sha256),
+            "shake128" => Ok(Algorithm::Shake128),
+            "mgf1" => Ok(Algorithm::Mgf1),
+            "buffered-shake128" => Ok(Algorithm::BufferedShake128),
+            "buffered-mgf1" => Ok(Algorithm::BufferedMgf1),
+            _ => Err(Fault::Algorithm),
+        }
+    }
 }
 
 #[derive(Drop)]
 pub(crate) struct Case {
     pub(crate) algorithm: Algorithm,
     pub(crate) message: Vec<u8>,
-    pub(crate) feeds: Feeds,
-    pub(crate) reads: Reads,
-}
-
-fn algorithm_of(word: &str) -> Result<Algorithm, Fault> {
-    match word {
-        "sha256" => Ok(Algorithm::Sha256),
-        "shake128" => Ok(Algorithm::Shake128),
-        "mgf1" => Ok(Algorithm::Mgf1),
-        "buffered-shake128" => Ok(Algorithm::BufferedShake128),
-        "buffered-mgf1" => Ok(Algorithm::BufferedMgf1),
-        _ => Err(Fault::Algorithm),
-    }
+    // the lengths of the pieces that are fed, from the first again until the message ends, not all 0;
+    // none: the message is fed whole
+    pub(crate) feeds: Option<Vec<usize>>,
+    // the lengths of the pieces that are read; none: the digest is read
+    pub(crate) reads: Option<Vec<usize>>,
 }
 
 fn lengths_of(heap: Global, word: &str) -> Result<Vec<usize>, Fault> {
-    let mut lengths = Vec::new(heap);
-    for length in word.split(',') {
-        lengths.push(length.parse::<usize>()?)?;
-    }
-    Ok(lengths)
+    word.split(',')
+        .map(|length| -> Result<usize, Fault> { Ok(length.parse()?) })
+        .try_collect(heap)
 }
 
-fn all_zero(lengths: &[usize]) -> bool {
-    for length in lengths {
-        if *length != 0 {
-            return false;
-        }
+// The lengths that the word lists, or none where it is the word for no list.
+fn lengths_unless(heap: Global, word: &str, none: &str) -> Result<Option<Vec<usize>>, Fault> {
+    if word == none {
+        return Ok(None);
     }
-    true
+    Ok(Some(lengths_of(heap, word)?))
 }
 
-fn feeds_of(heap: Global, word: &str) -> Result<Feeds, Fault> {
-    if word == "all" {
-        return Ok(Feeds::Whole);
+fn feeds_of(heap: Global, word: &str) -> Result<Option<Vec<usize>>, Fault> {
+    let feeds = lengths_unless(heap, word, "all")?;
+    match &feeds {
+        Some(lengths) if lengths.iter().all(|length| *length == 0) => Err(Fault::Feeds),
+        _ => Ok(feeds),
     }
-    let lengths = lengths_of(heap, word)?;
-    if all_zero(lengths.as_slice()) {
-        return Err(Fault::Feeds);
-    }
-    Ok(Feeds::Pieces(lengths))
-}
-
-fn reads_of(heap: Global, word: &str) -> Result<Reads, Fault> {
-    match word {
-        "digest" => Ok(Reads::Digest),
-        _ => Ok(Reads::Pieces(lengths_of(heap, word)?)),
-    }
-}
-
-#[derive(Drop)]
-struct Words<'a> {
-    algorithm: &'a str,
-    message: &'a str,
-    feeds: &'a str,
-    reads: &'a str,
-}
-
-fn words_of(line: &str) -> Option<Words<'_>> {
-    let (algorithm, rest) = line.split_once(' ')?;
-    let (message, rest) = rest.split_once(' ')?;
-    let (feeds, reads) = rest.split_once(' ')?;
-    Some(Words {
-        algorithm,
-        message,
-        feeds,
-        reads,
-    })
 }
 
 pub(crate) fn case_of(heap: Global, line: &str) -> Result<Case, Fault> {
-    let words = words_of(line).ok_or(Fault::Words)?;
+    let mut words = line.splitn(4, ' ');
+    let words: [Option<&str>; 4] = array::from_fn(|_| words.next());
+    let [Some(algorithm), Some(message), Some(feeds), Some(reads)] = words else {
+        return Err(Fault::Words);
+    };
     Ok(Case {
-        algorithm: algorithm_of(words.algorithm)?,
-        message: message_of(heap, words.message)?,
-        feeds: feeds_of(heap, words.feeds)?,
-        reads: reads_of(heap, words.reads)?,
+        algorithm: algorithm.parse()?,
+        message: message_of(heap, message)?,
+        feeds: feeds_of(heap, feeds)?,
+        reads: lengths_unless(heap, reads, "digest")?,
     })
 }

@@ -10,7 +10,7 @@ mod message;
 use answer::answer;
 use case::case_of;
 use fault::Fault;
-use hex::add_hex;
+use hex::Hex;
 use std::alloc::Global;
 use std::io;
 use std::io::{BufRead, BufReader};
@@ -19,9 +19,7 @@ use std::process::ExitCode;
 fn answered_line(heap: Global, line: &str) -> Result<String, Fault> {
     let case = case_of(heap, line)?;
     let bytes = answer(heap, &case)?;
-    let mut text = format!(in heap; "{line} ")?;
-    add_hex(&mut text, bytes.as_slice())?;
-    Ok(text)
+    Ok(format!(in heap; "{line} {}", Hex(bytes.as_slice()))?)
 }
 
 // Says on standard error what is wrong with the line: the program then ends with status 1.

@@ -7,7 +7,7 @@ pub(crate) fn message_of(heap: Global, word: &str) -> Result<Vec<u8>, Fault> {
     match word.split_once(':') {
         Some(("hex", bytes)) => bytes_of(heap, bytes),
         Some(("repeat", product)) => repeated(heap, product),
-        Some(("count", length)) => Ok(counted(heap, length.parse::<usize>()?)?),
+        Some(("count", length)) => Ok(counted(heap, length.parse()?)?),
         _ => Err(Fault::Message),
     }
 }
@@ -16,7 +16,7 @@ pub(crate) fn message_of(heap: Global, word: &str) -> Result<Vec<u8>, Fault> {
 fn repeated(heap: Global, product: &str) -> Result<Vec<u8>, Fault> {
     let (byte, count) = product.split_once('*').ok_or(Fault::Message)?;
     match bytes_of(heap, byte)?.as_slice() {
-        [byte] => Ok(vec![in heap; *byte; count.parse::<usize>()?]?),
+        [byte] => Ok(vec![in heap; *byte; count.parse()?]?),
         _ => Err(Fault::Hex),
     }
 }
@@ -31,9 +31,5 @@ fn counted_byte(i: usize, length: usize) -> u8 {
 }
 
 fn counted(heap: Global, length: usize) -> Result<Vec<u8>, AllocError> {
-    let mut bytes = Vec::new(heap);
-    for i in 0..length {
-        bytes.push(counted_byte(i, length))?;
-    }
-    Ok(bytes)
+    (0..length).map(|i| counted_byte(i, length)).collect(heap)
 }

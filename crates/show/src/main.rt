@@ -9,6 +9,15 @@ use std::alloc::Global;
 use std::io;
 use std::io::Read;
 use std::process::ExitCode;
+use thiserror::Error;
+
+#[derive(Debug, Drop, Error)]
+enum Failure {
+    #[error("cannot read standard input: {0}")]
+    Input(io::Error),
+    #[error("cannot write the listing: {0}")]
+    Listing(io::Error),
+}
 
 // One byte more than is listed tells that the input is too long, so no more is read.
 fn read_input<R: Read + Drop>(heap: Global, source: R) -> io::Result<Vec<u8>> {
@@ -17,27 +26,28 @@ fn read_input<R: Read + Drop>(heap: Global, source: R) -> io::Result<Vec<u8>> {
     Ok(input)
 }
 
-// Says on standard error what failed; the program then ends with status 1.
-fn fail(rt: &HostRuntime, what: &str, error: io::Error) -> ExitCode
-    ensures { exit_status result ≡ 1 }
-{
-    let _ = eprintln!(rt; "show: {what}: {error}");
-    ExitCode::FAILURE
-}
-
 fn list_input(rt: &HostRuntime, input: &[u8]) -> io::Result<()> {
     let text = show(rt.alloc(), input)?;
     rt.write_all(text.as_bytes())
 }
 
+fn run(rt: &HostRuntime) -> Result<(), Failure> {
+    let input = read_input(rt.alloc(), rt.stdin()).map_err(Failure::Input)?;
+    list_input(rt, input.as_slice()).map_err(Failure::Listing)
+}
+
+// Says on standard error what failed; the program then ends with status 1.
+fn fail(rt: &HostRuntime, failure: Failure) -> ExitCode
+    ensures { exit_status result ≡ 1 }
+{
+    let _ = eprintln!(rt; "show: {failure}");
+    ExitCode::FAILURE
+}
+
 fn main(rt: HostRuntime) -> ExitCode {
-    let input = match read_input(rt.alloc(), rt.stdin()) {
-        Ok(input) => input,
-        Err(error) => return fail(&rt, "cannot read standard input", error),
-    };
-    match list_input(&rt, input.as_slice()) {
+    match run(&rt) {
         Ok(()) => ExitCode::SUCCESS,
-        Err(error) => fail(&rt, "cannot write the listing", error),
+        Err(failure) => fail(&rt, failure),
     }
 }
 
@@ -49,21 +59,24 @@ mod tests {
     use std::io::Read;
     use std::test::Fail;
 
-    // Gives as many bytes as are asked for, a few at a time, and then fails or ends.
+    // Reads a few bytes at a time.
     #[derive(Drop)]
-    struct Source {
-        left: usize,
-        fails: bool,
+    struct Few<R>(R);
+
+    impl<R: Read> Read for Few<R> {
+        fn read(&mut self, buf: &mut [u8]) -> io::Result<usize> {
+            let count = buf.len().min(1000);
+            self.0.read(&mut buf[..count])
+        }
     }
 
-    impl Read for Source {
-        fn read(&mut self, buf: &mut [u8]) -> io::Result<usize> {
-            if self.left == 0 && self.fails {
-                return Err(io::Error::other("read failed"));
-            }
-            let count = buf.len().min(self.left).min(1000);
-            self.left -= count;
-            Ok(count)
+    // Fails at each read.
+    #[derive(Drop)]
+    struct Broken;
+
+    impl Read for Broken {
+        fn read(&mut self, _buf: &mut [u8]) -> io::Result<usize> {
+            Err(io::Error::other("read failed"))
         }
     }
 
@@ -79,13 +92,7 @@ mod tests {
             (8194, 8193),
             (1000000, 8193),
         ] {
-            let input = read_input(
-                heap,
-                Source {
-                    left: given,
-                    fails: false,
-                },
-            )?;
+            let input = read_input(heap, Few(io::repeat(0).take(given)))?;
             assert_eq!(rt; input.len(), kept);
             let is_too_long = show(heap, input.as_slice())?.as_str() == "file too long\n";
             assert_eq!(rt; is_too_long, given > 8192);
@@ -96,36 +103,10 @@ mod tests {
     #[test]
     fn a_failed_read_is_an_error(rt: HostRuntime) {
         let heap = rt.alloc();
-        assert!(rt;
-            read_input(
-                heap,
-                Source {
-                    left: 0,
-                    fails: true,
-                },
-            )
-            .is_err()
-        );
-        assert!(rt;
-            read_input(
-                heap,
-                Source {
-                    left: 5000,
-                    fails: true,
-                },
-            )
-            .is_err()
-        );
         // what lies behind the limit is not read
-        assert!(rt;
-            read_input(
-                heap,
-                Source {
-                    left: 8193,
-                    fails: true,
-                },
-            )
-            .is_ok()
-        );
+        for (given, is_read) in [(0, false), (5000, false), (8193, true)] {
+            let source = Few(io::repeat(0).take(given).chain(Broken));
+            assert_eq!(rt; read_input(heap, source).is_ok(), is_read);
+        }
     }
 }
