@@ -7,13 +7,14 @@ mod tests {
     use envelope::kind::Set;
     use envelope::reader::Reader;
     use envelope::record::Record;
+    use fault::Fault;
     use listing::{LONGEST, show};
     use std::alloc::{AllocError, Global};
     use std::iter;
     use std::process::Abort;
     use std::test::Fail;
 
-    // A kind byte, and how many bytes of which value follow it.
+    // A kind byte, and how many bytes of which value follow it. A number, since some are no kind.
     #[derive(Clone, Copy)]
     struct Raw {
         kind: u8,
@@ -136,8 +137,12 @@ mod tests {
         Ok(())
     }
 
-    fn stops(rt: &(impl Abort + AllocGlobal), reader: &mut Reader, line: &str) -> Result<(), Fail> {
-        let Err(fault) = reader.next() else {
+    fn faults<T: Drop>(
+        rt: &(impl Abort + AllocGlobal),
+        answer: Result<T, Fault>,
+        line: &str,
+    ) -> Result<(), Fail> {
+        let Err(fault) = answer else {
             return Err(Fail::new("no fault"));
         };
         assert_eq!(rt; format!(in rt.alloc(); "{fault}")?.as_str(), line);
@@ -150,8 +155,8 @@ mod tests {
         let bytes = written(heap, &[DAY, lone(0), KEY_R])?;
         let mut reader = Reader::new(bytes.as_slice());
         assert!(rt; matches!(reader.next(), Ok(Some(Record::Day(_)))));
-        stops(&rt, &mut reader, "refusal 12 layer E place 5")?;
-        stops(&rt, &mut reader, "refusal 12 layer E place 5")?;
+        faults(&rt, reader.next(), "refusal 12 layer E place 5")?;
+        faults(&rt, reader.next(), "refusal 12 layer E place 5")?;
         let bytes = written(heap, &[KEY_R])?;
         let mut reader = Reader::new(bytes.as_slice());
         assert!(rt; matches!(reader.next(), Ok(Some(Record::Key(Set::Rehearsal, _)))));
@@ -244,13 +249,8 @@ mod tests {
     }
 
     fn refuses(rt: &(impl Abort + AllocGlobal), records: &[Raw], line: &str) -> Result<(), Fail> {
-        let heap = rt.alloc();
-        let bytes = written(heap, records)?;
-        let Err(fault) = judge(bytes.as_slice()) else {
-            return Err(Fail::new("accepted"));
-        };
-        assert_eq!(rt; format!(in heap; "{fault}")?.as_str(), line);
-        Ok(())
+        let bytes = written(rt.alloc(), records)?;
+        faults(rt, judge(bytes.as_slice()), line)
     }
 
     #[test]
