@@ -4,5 +4,5 @@ use Rattle.hash.proofs.compression.four_rounds.Goals as goal
 
 pub returns : goal.returns
 returns c =
-    rw (c.round.ensures, c.round-v-3.ensures, c.round-v-2.ensures, c.round-v.ensures)
+    rw (c.round-4.ensures, c.round-3.ensures, c.round-2.ensures, c.round.ensures)
     (four_sums c.args.k c.args.w (working_of c.args.v) c.fits-k.0 c.fits-w.0)

@@ -11,4 +11,4 @@ returns c =
     let v = c.args.v in
     let choice = choice_is 32 v.e v.f v.g (search rules) (search rules) in
     let majority = majority_is 32 v.a v.b v.c (search rules) (search rules) (search rules) in
-    rw (c.big_sigma_0.ensures, c.big_sigma_1.ensures, choice, majority, round_order v.h c.args.kw (ch v.e v.f v.g) (Σ₁ v.e))
+    rw (c.big_sigma.ensures, c.big_sigma-2.ensures, choice, majority, round_order v.h c.args.kw (ch v.e v.f v.g) (Σ₁ v.e))
