@@ -3,12 +3,9 @@ use Rattle.hash.specs.Windows.{working_of}
 use Rattle.hash.proofs.RoundLaws.{rounds_longer}
 use Rattle.hash.proofs.compression.four_steps.Goals as goal
 
-pub returns : goal.returns
-returns c =
+pub returns-clause-working : goal.returns-clause-working
+returns-clause-working c =
     let w = c.args.s.window.first in
     let h : length w ≡ 4 = search rules in
     let k : length c.args.k ≡ 4 = search rules in
-    record {
-      working = c.four_rounds.ensures ∙ sym (rounds_longer c.args.k w _ (working_of c.args.s.working) (omega arith));
-      window = c.slid.ensures;
-    }
+    c.four_rounds.ensures ∙ sym (rounds_longer c.args.k w _ (working_of c.args.s.working) (omega arith))
