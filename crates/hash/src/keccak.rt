@@ -3,6 +3,8 @@ ghost use Rattle.std.specs.Prelude.{◌≡◌, bit_xor, slice_index};
 ghost use Rattle.hash.specs.Keccak.{blank, constants, distance, effect, five, permuted, rotated, round, state, θ, ι, π, ρ, χ};
 ghost use Rattle.hash.specs.Lanes.{lanes_of, χ_row};
 
+use std::array;
+
 // A row of five lanes, those with one y; FIPS 202 calls it a plane.
 #[derive(Clone, Copy)]
 pub struct Plane {
@@ -99,10 +101,8 @@ fn rotations() -> [[u32; 5]; 5]
 pub(crate) fn xor(a: Plane, b: Plane) -> Plane
     ensures { result.lanes ≡ five (λ x. bit_xor (slice_index a.lanes x) (slice_index b.lanes x)) }
 {
-    let [a0, a1, a2, a3, a4] = a.lanes;
-    let [b0, b1, b2, b3, b4] = b.lanes;
     Plane {
-        lanes: [a0 ^ b0, a1 ^ b1, a2 ^ b2, a3 ^ b3, a4 ^ b4],
+        lanes: array::from_fn(|x| a.lanes[x] ^ b.lanes[x]),
     }
 }
 
@@ -111,15 +111,9 @@ fn theta_effect(s: State) -> Plane
     ensures { result.lanes ≡ five (effect (lanes_of s)) }
 {
     let sums = xor(xor(xor(xor(s.y0, s.y1), s.y2), s.y3), s.y4);
-    let [c0, c1, c2, c3, c4] = sums.lanes;
+    let c = sums.lanes;
     Plane {
-        lanes: [
-            c4 ^ c1.rotate_left(1),
-            c0 ^ c2.rotate_left(1),
-            c1 ^ c3.rotate_left(1),
-            c2 ^ c4.rotate_left(1),
-            c3 ^ c0.rotate_left(1),
-        ],
+        lanes: array::from_fn(|x| c[(x + 4) % 5] ^ c[(x + 1) % 5].rotate_left(1)),
     }
 }
 
@@ -140,16 +134,8 @@ fn theta(s: State) -> State
 fn turned(row: Plane, distances: [u32; 5]) -> Plane
     ensures { result.lanes ≡ five (λ x. rotated (slice_index row.lanes x) (slice_index distances x)) }
 {
-    let [a0, a1, a2, a3, a4] = row.lanes;
-    let [n0, n1, n2, n3, n4] = distances;
     Plane {
-        lanes: [
-            a0.rotate_left(n0),
-            a1.rotate_left(n1),
-            a2.rotate_left(n2),
-            a3.rotate_left(n3),
-            a4.rotate_left(n4),
-        ],
+        lanes: array::from_fn(|x| row.lanes[x].rotate_left(distances[x])),
     }
 }
 
@@ -192,15 +178,9 @@ fn pi(s: State) -> State
 fn chi_row(row: Plane) -> Plane
     ensures { result.lanes ≡ χ_row row.lanes }
 {
-    let [a0, a1, a2, a3, a4] = row.lanes;
+    let a = row.lanes;
     Plane {
-        lanes: [
-            a0 ^ (!a1 & a2),
-            a1 ^ (!a2 & a3),
-            a2 ^ (!a3 & a4),
-            a3 ^ (!a4 & a0),
-            a4 ^ (!a0 & a1),
-        ],
+        lanes: array::from_fn(|x| a[x] ^ (!a[(x + 1) % 5] & a[(x + 2) % 5])),
     }
 }
 
@@ -219,10 +199,8 @@ fn chi(s: State) -> State
 fn iota(s: State, constant: u64) -> State
     ensures { lanes_of result ≡ ι constant (lanes_of s) }
 {
-    let [a0, a1, a2, a3, a4] = s.y0.lanes;
-    let y0 = Plane {
-        lanes: [a0 ^ constant, a1, a2, a3, a4],
-    };
+    let mut y0 = s.y0;
+    y0.lanes[0] ^= constant;
     State { y0, ..s }
 }
 

@@ -9,6 +9,6 @@ pub returns : goal.returns
 unfolding round working_of
 returns c =
     let v = c.args.v in
-    let choice = choice_is 32 v.e v.f v.g (search rules) (search rules) in
-    let majority = majority_is 32 v.a v.b v.c (search rules) (search rules) (search rules) in
+    let choice = choice_is v.e v.f v.g (search rules) (search rules) in
+    let majority = majority_is v.a v.b v.c in
     rw (c.big_sigma.ensures, c.big_sigma-2.ensures, choice, majority, round_order v.h c.args.kw (ch v.e v.f v.g) (Σ₁ v.e))
