@@ -1,8 +1,8 @@
 // The parts of SHA-256 (FIPS 180-4): the compression of a block, and the padding at the end.
 ghost use Rattle.std.specs.Prelude.{◌≡◌, ℕ, ◌+◌, ◌-◌, ◌*◌, ◌%◌, ◌^◌, ◌<◌, ◌∷◌, ◌++◌, map, length, take, drop, replicate};
-ghost use Rattle.hash.specs.Sha256.{big_endian, block_words, chain_bytes, compressed, constants, digest_from, initial, round, rounds, rotr, schedule, shr, word_at};
+ghost use Rattle.hash.specs.Sha256.{big_endian, block_words, chain_bytes, compressed, constants, digest_from, initial, round, rounds, rotr, schedule, shr, started, word_at};
 ghost use Rattle.hash.specs.Words.{◌⊕◌};
-ghost use Rattle.hash.specs.Windows.{window_of, working_of};
+ghost use Rattle.hash.specs.Windows.{window_of};
 
 use std::simd::prelude::*;
 
@@ -33,19 +33,6 @@ pub struct Chain {
     words: [u32; 8],
 }
 
-// The working variables.
-#[derive(Clone, Copy)]
-struct Working {
-    a: u32,
-    b: u32,
-    c: u32,
-    d: u32,
-    e: u32,
-    f: u32,
-    g: u32,
-    h: u32,
-}
-
 // The words of the schedule for the next sixteen rounds, four to a vector.
 #[derive(Clone, Copy)]
 struct Window {
@@ -55,10 +42,10 @@ struct Window {
     fourth: u32x4,
 }
 
-// The working variables before a round, and the words for it and the next fifteen.
+// The working variables a to h before a round, and the words for it and the next fifteen.
 #[derive(Clone, Copy)]
 struct State {
-    working: Working,
+    working: [u32; 8],
     window: Window,
 }
 
@@ -140,30 +127,21 @@ fn slid(w: Window) -> Window
 }
 
 // One round, with the sum of its constant and its word.
-fn round(v: Working, kw: u32) -> Working
-    ensures { working_of result ≡ round kw 0 (working_of v) }
+fn round(v: [u32; 8], kw: u32) -> [u32; 8]
+    ensures { started result ≡ round kw 0 (started v) }
 {
-    let t1 = v
-        .h
+    let [a, b, c, d, e, f, g, h] = v;
+    let t1 = h
         .wrapping_add(kw)
-        .wrapping_add(((v.f ^ v.g) & v.e) ^ v.g)
-        .wrapping_add(big_sigma::<6, 11, 25>(v.e));
-    let t2 = big_sigma::<2, 13, 22>(v.a).wrapping_add(((v.a ^ v.b) & (v.b ^ v.c)) ^ v.b);
-    Working {
-        a: t1.wrapping_add(t2),
-        b: v.a,
-        c: v.b,
-        d: v.c,
-        e: v.d.wrapping_add(t1),
-        f: v.e,
-        g: v.f,
-        h: v.g,
-    }
+        .wrapping_add(((f ^ g) & e) ^ g)
+        .wrapping_add(big_sigma::<6, 11, 25>(e));
+    let t2 = big_sigma::<2, 13, 22>(a).wrapping_add(((a ^ b) & (b ^ c)) ^ b);
+    [t1.wrapping_add(t2), a, b, c, d.wrapping_add(t1), e, f, g]
 }
 
 // Four rounds, with their constants and their words.
-fn four_rounds(v: Working, k: u32x4, w: u32x4) -> Working
-    ensures { working_of result ≡ rounds k w (working_of v) }
+fn four_rounds(v: [u32; 8], k: u32x4, w: u32x4) -> [u32; 8]
+    ensures { started result ≡ rounds k w (started v) }
 {
     let [kw0, kw1, kw2, kw3] = (w + k).to_array();
     round(round(round(round(v, kw0), kw1), kw2), kw3)
@@ -171,7 +149,7 @@ fn four_rounds(v: Working, k: u32x4, w: u32x4) -> Working
 
 // Four rounds, and the window four words on. One call alone, so that the compiler inlines it.
 fn four_steps(s: State, k: [u32; 4]) -> State
-    ensures working { working_of result.working ≡ rounds k (window_of s.window) (working_of s.working) }
+    ensures working { started result.working ≡ rounds k (window_of s.window) (started s.working) }
     ensures window { window_of result.window ≡ drop 4 (schedule 4 (window_of s.window)) }
 {
     State {
@@ -181,8 +159,8 @@ fn four_steps(s: State, k: [u32; 4]) -> State
 }
 
 // All rounds, from the first sixteen words of the schedule.
-fn rounds(start: State) -> Working
-    ensures { working_of result ≡ rounds constants (schedule 48 (window_of start.window)) (working_of start.working) }
+fn rounds(start: State) -> [u32; 8]
+    ensures { started result ≡ rounds constants (schedule 48 (window_of start.window)) (started start.working) }
 {
     let (fours, _) = round_constants().as_chunks::<4>();
     let mut s = start;
@@ -196,32 +174,11 @@ fn rounds(start: State) -> Working
 pub(crate) fn compress(chain: Chain, block: &[u8; BLOCK]) -> Chain
     ensures { result.words ≡ compressed chain.words block.now }
 {
-    let [a, b, c, d, e, f, g, h] = chain.words;
-    let v = rounds(State {
-        working: Working {
-            a,
-            b,
-            c,
-            d,
-            e,
-            f,
-            g,
-            h,
-        },
-        window: block_window(block),
-    });
-    Chain {
-        words: [
-            a.wrapping_add(v.a),
-            b.wrapping_add(v.b),
-            c.wrapping_add(v.c),
-            d.wrapping_add(v.d),
-            e.wrapping_add(v.e),
-            f.wrapping_add(v.f),
-            g.wrapping_add(v.g),
-            h.wrapping_add(v.h),
-        ],
-    }
+    let working = chain.words;
+    let window = block_window(block);
+    let v = rounds(State { working, window });
+    let words = (u32x8::from_array(working) + u32x8::from_array(v)).to_array();
+    Chain { words }
 }
 
 // The chaining value as bytes, high byte first.

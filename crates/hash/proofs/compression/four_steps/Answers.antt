@@ -1,5 +1,5 @@
 use Rattle.std.proofs.Common.{◌≡◌, length, sym, ◌∙◌, arith, rules}
-use Rattle.hash.specs.Windows.{working_of}
+use Rattle.hash.specs.Sha256.{started}
 use Rattle.hash.proofs.RoundLaws.{rounds_longer}
 use Rattle.hash.proofs.compression.four_steps.Goals as goal
 
@@ -8,4 +8,4 @@ returns-clause-working c =
     let w = c.args.s.window.first in
     let h : length w ≡ 4 = search rules in
     let k : length c.args.k ≡ 4 = search rules in
-    c.four_rounds.ensures ∙ sym (rounds_longer c.args.k w _ (working_of c.args.s.working) (omega arith))
+    c.four_rounds.ensures ∙ sym (rounds_longer c.args.k w _ (started c.args.s.working) (omega arith))

@@ -1,7 +1,7 @@
 use Rattle.std.proofs.Common.{◌≡◌, ◌+◌, ◌*◌, length, refl, arith, rules}
 use Rattle.std.proofs.lemmas.List.{places}
-use Rattle.hash.specs.Sha256.{constants, rounds, schedule}
-use Rattle.hash.specs.Windows.{window_of, working_of}
+use Rattle.hash.specs.Sha256.{constants, rounds, schedule, started}
+use Rattle.hash.specs.Windows.{window_of}
 use Rattle.hash.proofs.Words.{chunk_at}
 use Rattle.hash.proofs.WindowLaws.{length-constants, rounds_all, rounds_more, window_more}
 use Rattle.hash.proofs.compression.rounds.Goals as goal
@@ -14,7 +14,7 @@ pub loop-k-preserved : goal.loop-k-preserved
 loop-k-preserved c =
     let i = c.loop-k.k-index in
     let w = window_of c.args.start.window in
-    let v = working_of c.args.start.working in
+    let v = started c.args.start.working in
     let h : length w ≡ 16 = search (rules, places) in
     let m : 4 * (i + 1) ≡ 4 * i + 4 = omega arith in
     let window = window_more w (4 * i) h in
@@ -26,4 +26,4 @@ returns c =
     let w = window_of c.args.start.window in
     let h : length w ≡ 16 = search (rules, places) in
     let n : 4 * c.loop-k.k-index ≡ 64 = omega arith in
-    rw (c.loop-k.invariant.1, n) (rounds_all constants w (working_of c.args.start.working) h length-constants)
+    rw (c.loop-k.invariant.1, n) (rounds_all constants w (started c.args.start.working) h length-constants)
