@@ -1,9 +1,10 @@
 // The parts of SHA-256 (FIPS 180-4): the compression of a block, and the padding at the end.
 ghost use Rattle.std.specs.Prelude.{◌≡◌, ℕ, ◌+◌, ◌-◌, ◌*◌, ◌%◌, ◌^◌, ◌<◌, ◌∷◌, ◌++◌, map, length, take, drop, replicate};
-ghost use Rattle.hash.specs.Sha256.{big_endian, block_words, chain_bytes, compressed, constants, digest_from, initial, round, rounds, rotr, schedule, shr, started, word_at};
+ghost use Rattle.hash.specs.Sha256.{added, big_endian, block_words, chain_bytes, compressed, constants, digest_from, initial, round, rounds, rotr, schedule, shr, started, word_at};
 ghost use Rattle.hash.specs.Words.{◌⊕◌};
 ghost use Rattle.hash.specs.Windows.{window_of};
 
+use std::array;
 use std::simd::prelude::*;
 
 // The length of a block.
@@ -170,6 +171,13 @@ fn rounds(start: State) -> [u32; 8]
     s.working
 }
 
+// Two lists of words added, word by word.
+fn sums(x: [u32; 8], y: [u32; 8]) -> [u32; 8]
+    ensures { result ≡ added (started x) (started y) }
+{
+    array::from_fn(|i| x[i].wrapping_add(y[i]))
+}
+
 // The chaining value after one more block.
 pub(crate) fn compress(chain: Chain, block: &[u8; BLOCK]) -> Chain
     ensures { result.words ≡ compressed chain.words block.now }
@@ -177,7 +185,7 @@ pub(crate) fn compress(chain: Chain, block: &[u8; BLOCK]) -> Chain
     let working = chain.words;
     let window = block_window(block);
     let v = rounds(State { working, window });
-    let words = (u32x8::from_array(working) + u32x8::from_array(v)).to_array();
+    let words = sums(working, v);
     Chain { words }
 }
 

@@ -1,11 +1,9 @@
-use Rattle.std.proofs.Common.{ap, ◌∙◌, rules}
+use Rattle.std.proofs.Common.{ap, ◌∙◌}
 use Rattle.hash.specs.Sha256.{added, compressed, constants, rounds, schedule, started}
-use Rattle.hash.proofs.Words.{written_out}
 use Rattle.hash.proofs.compression.compress.Goals as goal
 
 pub returns : goal.returns
 unfolding compressed
 returns c =
     let x = started c.args.chain.words in
-    rw (written_out 8 c.args.chain.words (search rules), written_out 8 c.rounds-v.result (search rules))
-    (ap (added x) (c.rounds-v.ensures ∙ ap (λ w. rounds constants (schedule 48 w) x) c.block_window-window.ensures))
+    c.sums-words.ensures ∙ ap (added x) (c.rounds-v.ensures ∙ ap (λ w. rounds constants (schedule 48 w) x) c.block_window-window.ensures)
