@@ -1,10 +1,9 @@
 -- Laws of SHA-256: padding, one block more, and the form of a digest.
-use Rattle.std.specs.Prelude.{◌≡◌, ℕ, zero, suc, ◌+◌, ◌-◌, ◌*◌, ◌/◌, ◌%◌, ◌^◌, ◌<◌, ◌≤◌, List, [], ◌∷◌, ◌++◌, length, take, drop, replicate, slice_index, slice_set, refl}
+use Rattle.std.specs.Prelude.{◌≡◌, ℕ, zero, suc, ◌+◌, ◌-◌, ◌*◌, ◌/◌, ◌%◌, ◌^◌, ◌<◌, ◌≤◌, List, [], ◌∷◌, ◌++◌, length, take, drop, replicate, slice_set, refl}
 use Rattle.std.proofs.Common.{sym, ◌∙◌, div-one, arith}
 use Rattle.std.proofs.Math.Path.{ap}
 use borrow.Rule.Slice.PartMut.{put_mid}
-use Rattle.std.proofs.lemmas.List.{append_assoc, append-nil, drop_all, drop-drop, drop-replicate, flat_map_more, length-append, length-replicate, length-take-le, replicate-append-replicate, set_at, take_all, take_at, take_more}
-use Rattle.std.proofs.lemmas.Slice.{take-put_mid}
+use Rattle.std.proofs.lemmas.List.{append_assoc, append-nil, drop_all, drop-drop, drop-replicate, length-append, length-replicate, length-take-le, replicate-append-replicate, set_at, take_at}
 use Rattle.hash.specs.Blocks.{absorbed}
 use Rattle.hash.proofs.Feeding.{absorbed_block}
 use Rattle.hash.specs.Sha256.{big_endian, chain_bytes, compressed, digest_from, hashed, initial, padding, sha256}
@@ -107,20 +106,6 @@ pub count_bytes : (t x : ℕ) → x ≡ (t * 8) % 2 ^ 64
     ≡ big_endian 8 (8 * (t % 2 ^ 61))
 unfolding big_endian
 count_bytes t x e = let f : 8 * (t % 2 ^ 61) ≡ x = omega arith in rw (f, div-one x)
-
--- a loop that writes the bytes of the words x one after the other
-pub chain_bytes_more : (x out z : List ℕ) (i : ℕ) → i < length x → length out ≡ 4 * length x → take (4 * i) out ≡ chain_bytes (take i x)
-    → z ≡ big_endian 4 (slice_index x i)
-    → take (4 * (i + 1)) (put_mid (4 * i) (4 * i + 4 - 4 * i) out z) ≡ chain_bytes (take (i + 1) x)
-chain_bytes_more x out z i l h p e =
-    let n : length z ≡ 4 = ap length e ∙ length-big_endian 4 (slice_index x i) in
-    take-put_mid (4 * i) (4 * i + 4 - 4 * i) out z (4 * (i + 1)) (omega arith) (omega arith)
-    ∙ rw (p, e, take_more x i 0 l) (flat_map_more (big_endian 4) [] (take i x) (slice_index x i))
-
-pub chain_bytes_all : (x out : List ℕ) (i : ℕ) → i ≡ length x → length out ≡ 4 * length x → take (4 * i) out ≡ chain_bytes (take i x)
-    → out ≡ chain_bytes x
-chain_bytes_all x out i e h p =
-    sym (take_all (4 * i) out (omega arith)) ∙ p ∙ ap chain_bytes (take_all i x (omega arith))
 
 length-chain_bytes : (x : List ℕ) → length (chain_bytes x) ≡ 4 * length x
 unfolding big_endian

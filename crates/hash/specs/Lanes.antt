@@ -1,15 +1,11 @@
 -- What the state in the code stands for, and the rows of which the code makes a round. Assumes nothing.
-use Rattle.std.specs.Prelude.{ℕ, ◌+◌, ◌*◌, ◌%◌, List, [], ◌∷◌, bit_and, slice_index, slice_index_or}
+use Rattle.std.specs.Prelude.{ℕ, ◌+◌, ◌%◌, List, [], ◌∷◌, bit_and, slice_index, slice_index_or}
 use Rattle.hash.specs.declared.keccak.State.{State}
 use Rattle.hash.specs.Words.{complement, ◌⊕◌}
-use Rattle.hash.specs.Keccak.{Lanes, distance, five, lane, rotated}
+use Rattle.hash.specs.Keccak.{Lanes, five}
 
 abbrev pub lanes_of : State → Lanes
 lanes_of s = s.y0.lanes ∷ s.y1.lanes ∷ s.y2.lanes ∷ s.y3.lanes ∷ s.y4.lanes ∷ []
-
--- row y after θ, ρ and π, given what θ adds to each column
-abbrev pub moved : Lanes → List ℕ → ℕ → List ℕ
-moved A added y = five (λ x. let from = (x + 3 * y) % 5 in rotated (lane A from x ⊕ slice_index_or added from 0) (distance from x))
 
 -- a row after χ
 abbrev pub χ_row : List ℕ → List ℕ

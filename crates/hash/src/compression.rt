@@ -1,8 +1,10 @@
 // The parts of SHA-256 (FIPS 180-4): the compression of a block, and the padding at the end.
 ghost use Rattle.std.specs.Prelude.{◌≡◌, ℕ, ◌+◌, ◌-◌, ◌*◌, ◌%◌, ◌^◌, ◌<◌, ◌∷◌, ◌++◌, map, length, take, drop, replicate};
-ghost use Rattle.hash.specs.Sha256.{big_endian, block_words, chain_bytes, compressed, constants, digest_from, initial, round, rounds, schedule, Σ₀, Σ₁, σ₀, σ₁};
-ghost use Rattle.hash.specs.Windows.{window_of, working_of};
+ghost use Rattle.hash.specs.Sha256.{added, big_endian, block_words, chain_bytes, compressed, constants, digest_from, initial, round, rounds, rotr, schedule, shr, started, word_at};
+ghost use Rattle.hash.specs.Words.{◌⊕◌};
+ghost use Rattle.hash.specs.Windows.{window_of};
 
+use std::array;
 use std::simd::prelude::*;
 
 // The length of a block.
@@ -32,19 +34,6 @@ pub struct Chain {
     words: [u32; 8],
 }
 
-// The working variables.
-#[derive(Clone, Copy)]
-struct Working {
-    a: u32,
-    b: u32,
-    c: u32,
-    d: u32,
-    e: u32,
-    f: u32,
-    g: u32,
-    h: u32,
-}
-
 // The words of the schedule for the next sixteen rounds, four to a vector.
 #[derive(Clone, Copy)]
 struct Window {
@@ -54,10 +43,10 @@ struct Window {
     fourth: u32x4,
 }
 
-// The working variables before a round, and the words for it and the next fifteen.
+// The working variables a to h before a round, and the words for it and the next fifteen.
 #[derive(Clone, Copy)]
 struct State {
-    working: Working,
+    working: [u32; 8],
     window: Window,
 }
 
@@ -68,70 +57,48 @@ pub(crate) fn initial() -> Chain
     Chain { words: INITIAL }
 }
 
-fn round_constants() -> &'static [u32]
+fn round_constants() -> &'static [u32; 64]
     ensures { result.now ≡ constants }
 {
     &ROUND_CONSTANTS
 }
 
-fn big_sigma_0(x: u32) -> u32
-    ensures { result ≡ Σ₀ x }
+// Three rotations of a word: Σ₀ and Σ₁.
+fn big_sigma<const A: u32, const B: u32, const C: u32>(x: u32) -> u32
+    requires { (0 < A) × (A < 32) × (0 < B) × (B < 32) × (0 < C) × (C < 32) }
+    ensures { result ≡ rotr A x ⊕ rotr B x ⊕ rotr C x }
 {
-    x.rotate_right(2) ^ x.rotate_right(13) ^ x.rotate_right(22)
+    x.rotate_right(A) ^ x.rotate_right(B) ^ x.rotate_right(C)
 }
 
-fn big_sigma_1(x: u32) -> u32
-    ensures { result ≡ Σ₁ x }
+// Two rotations and a shift of each of four words: σ₀ and σ₁.
+fn small_sigma<const A: u32, const B: u32, const C: u32>(x: u32x4) -> u32x4
+    requires { (0 < A) × (A < 32) × (0 < B) × (B < 32) × (C < 32) }
+    ensures { result ≡ map (λ w. rotr A w ⊕ rotr B w ⊕ shr C w) x }
 {
-    x.rotate_right(6) ^ x.rotate_right(11) ^ x.rotate_right(25)
+    ((x >> u32x4::splat(A)) | (x << u32x4::splat(32 - A)))
+        ^ ((x >> u32x4::splat(B)) | (x << u32x4::splat(32 - B)))
+        ^ (x >> u32x4::splat(C))
 }
 
-// σ₀ of four words.
-fn small_sigma_0(x: u32x4) -> u32x4
-    ensures { result ≡ map σ₀ x }
+// Four words, from their bytes.
+fn four_words(bytes: [[u8; 4]; 4]) -> u32x4
+    ensures { result ≡ map (λ b. word_at b 0) bytes }
 {
-    ((x >> u32x4::splat(7)) | (x << u32x4::splat(25)))
-        ^ ((x >> u32x4::splat(18)) | (x << u32x4::splat(14)))
-        ^ (x >> u32x4::splat(3))
-}
-
-// σ₁ of four words.
-fn small_sigma_1(x: u32x4) -> u32x4
-    ensures { result ≡ map σ₁ x }
-{
-    ((x >> u32x4::splat(17)) | (x << u32x4::splat(15)))
-        ^ ((x >> u32x4::splat(19)) | (x << u32x4::splat(13)))
-        ^ (x >> u32x4::splat(10))
+    u32x4::from_array(bytes.map(u32::from_be_bytes))
 }
 
 // The words of a block.
-fn block_words(block: &[u8]) -> [u32; 16]
-    requires { length block.now ≡ 64 }
-    ensures { result ≡ block_words block.now }
-{
-    let mut words = [0u32; 16];
-    for t in 0..16usize {
-        words[t] = u32::from_be_bytes([
-            block[4 * t],
-            block[4 * t + 1],
-            block[4 * t + 2],
-            block[4 * t + 3],
-        ]);
-    }
-    words
-}
-
-// The words of a block as a window.
-fn block_window(block: &[u8]) -> Window
-    requires { length block.now ≡ 64 }
+fn block_window(block: &[u8; BLOCK]) -> Window
     ensures { window_of result ≡ block_words block.now }
 {
-    let w = block_words(block);
+    let (words, _) = block.as_chunks::<4>();
+    let (fours, _) = words.as_chunks::<4>();
     Window {
-        first: u32x4::from_array([w[0], w[1], w[2], w[3]]),
-        second: u32x4::from_array([w[4], w[5], w[6], w[7]]),
-        third: u32x4::from_array([w[8], w[9], w[10], w[11]]),
-        fourth: u32x4::from_array([w[12], w[13], w[14], w[15]]),
+        first: four_words(fours[0]),
+        second: four_words(fours[1]),
+        third: four_words(fours[2]),
+        fourth: four_words(fours[3]),
     }
 }
 
@@ -142,10 +109,10 @@ fn next_four(w: Window) -> u32x4
 {
     let zero = u32x4::splat(0);
     let sum = w.first
-        + small_sigma_0(w.first.shuffle(w.second, [1, 2, 3, 4]))
+        + small_sigma::<7, 18, 3>(w.first.shuffle(w.second, [1, 2, 3, 4]))
         + w.third.shuffle(w.fourth, [1, 2, 3, 4]);
-    let low = sum + small_sigma_1(w.fourth.shuffle(zero, [2, 3, 4, 5]));
-    low + small_sigma_1(zero.shuffle(low, [0, 1, 4, 5]))
+    let low = sum + small_sigma::<17, 19, 10>(w.fourth.shuffle(zero, [2, 3, 4, 5]));
+    low + small_sigma::<17, 19, 10>(zero.shuffle(low, [0, 1, 4, 5]))
 }
 
 // The window four words on.
@@ -161,105 +128,73 @@ fn slid(w: Window) -> Window
 }
 
 // One round, with the sum of its constant and its word.
-fn round(v: Working, kw: u32) -> Working
-    ensures { working_of result ≡ round kw 0 (working_of v) }
+fn round(v: [u32; 8], kw: u32) -> [u32; 8]
+    ensures { started result ≡ round kw 0 (started v) }
 {
-    let t1 = v
-        .h
+    let [a, b, c, d, e, f, g, h] = v;
+    let t1 = h
         .wrapping_add(kw)
-        .wrapping_add(((v.f ^ v.g) & v.e) ^ v.g)
-        .wrapping_add(big_sigma_1(v.e));
-    let t2 = big_sigma_0(v.a).wrapping_add(((v.a ^ v.b) & (v.b ^ v.c)) ^ v.b);
-    Working {
-        a: t1.wrapping_add(t2),
-        b: v.a,
-        c: v.b,
-        d: v.c,
-        e: v.d.wrapping_add(t1),
-        f: v.e,
-        g: v.f,
-        h: v.g,
-    }
+        .wrapping_add(((f ^ g) & e) ^ g)
+        .wrapping_add(big_sigma::<6, 11, 25>(e));
+    let t2 = big_sigma::<2, 13, 22>(a).wrapping_add(((a ^ b) & (b ^ c)) ^ b);
+    [t1.wrapping_add(t2), a, b, c, d.wrapping_add(t1), e, f, g]
 }
 
 // Four rounds, with their constants and their words.
-fn four_rounds(v: Working, k: u32x4, w: u32x4) -> Working
-    ensures { working_of result ≡ rounds k w (working_of v) }
+fn four_rounds(v: [u32; 8], k: u32x4, w: u32x4) -> [u32; 8]
+    ensures { started result ≡ rounds k w (started v) }
 {
-    let kw = (w + k).to_array();
-    let v = round(v, kw[0]);
-    let v = round(v, kw[1]);
-    let v = round(v, kw[2]);
-    round(v, kw[3])
+    let [kw0, kw1, kw2, kw3] = (w + k).to_array();
+    round(round(round(round(v, kw0), kw1), kw2), kw3)
 }
 
 // Four rounds, and the window four words on. One call alone, so that the compiler inlines it.
-fn four_steps(s: State, k: &[u32]) -> State
-    requires { length k.now ≡ 4 }
-    ensures working { working_of result.working ≡ rounds k.now (window_of s.window) (working_of s.working) }
+fn four_steps(s: State, k: [u32; 4]) -> State
+    ensures working { started result.working ≡ rounds k (window_of s.window) (started s.working) }
     ensures window { window_of result.window ≡ drop 4 (schedule 4 (window_of s.window)) }
 {
-    let constants = u32x4::from_array([k[0], k[1], k[2], k[3]]);
     State {
-        working: four_rounds(s.working, constants, s.window.first),
+        working: four_rounds(s.working, u32x4::from_array(k), s.window.first),
         window: slid(s.window),
     }
 }
 
 // All rounds, from the first sixteen words of the schedule.
-fn rounds(start: State) -> Working
-    ensures { working_of result ≡ rounds constants (schedule 48 (window_of start.window)) (working_of start.working) }
+fn rounds(start: State) -> [u32; 8]
+    ensures { started result ≡ rounds constants (schedule 48 (window_of start.window)) (started start.working) }
 {
-    let k = round_constants();
+    let (fours, _) = round_constants().as_chunks::<4>();
     let mut s = start;
-    for i in 0..16usize {
-        s = four_steps(s, &k[4 * i..4 * i + 4]);
+    for k in fours {
+        s = four_steps(s, *k);
     }
     s.working
 }
 
+// Two lists of words added, word by word.
+fn sums(x: [u32; 8], y: [u32; 8]) -> [u32; 8]
+    ensures { result ≡ added (started x) (started y) }
+{
+    array::from_fn(|i| x[i].wrapping_add(y[i]))
+}
+
 // The chaining value after one more block.
-pub(crate) fn compress(chain: Chain, block: &[u8]) -> Chain
-    requires { length block.now ≡ 64 }
+pub(crate) fn compress(chain: Chain, block: &[u8; BLOCK]) -> Chain
     ensures { result.words ≡ compressed chain.words block.now }
 {
-    let [a, b, c, d, e, f, g, h] = chain.words;
-    let v = rounds(State {
-        working: Working {
-            a,
-            b,
-            c,
-            d,
-            e,
-            f,
-            g,
-            h,
-        },
-        window: block_window(block),
-    });
-    Chain {
-        words: [
-            a.wrapping_add(v.a),
-            b.wrapping_add(v.b),
-            c.wrapping_add(v.c),
-            d.wrapping_add(v.d),
-            e.wrapping_add(v.e),
-            f.wrapping_add(v.f),
-            g.wrapping_add(v.g),
-            h.wrapping_add(v.h),
-        ],
-    }
+    let working = chain.words;
+    let window = block_window(block);
+    let v = rounds(State { working, window });
+    let words = sums(working, v);
+    Chain { words }
 }
 
 // The chaining value as bytes, high byte first.
 fn chain_bytes(chain: Chain) -> [u8; DIGEST]
     ensures { result ≡ chain_bytes chain.words }
 {
-    let words = chain.words;
-    let mut out = [0u8; DIGEST];
-    for i in 0..8usize {
-        out[4 * i..4 * i + 4].copy_from_slice(&words[i].to_be_bytes());
-    }
+    let mut out = [0; DIGEST];
+    out.copy_from_slice(chain.words.map(u32::to_be_bytes).as_flattened());
     out
 }
 

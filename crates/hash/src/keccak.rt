@@ -1,7 +1,9 @@
 // The permutation Keccak-f[1600], on a state that is passed by value.
-ghost use Rattle.std.specs.Prelude.{◌≡◌, ◌<◌, bit_xor, slice_index, slice_set};
-ghost use Rattle.hash.specs.Keccak.{blank, constants, distance, effect, five, permuted, rotated, round};
-ghost use Rattle.hash.specs.Lanes.{lanes_of, moved, χ_row};
+ghost use Rattle.std.specs.Prelude.{◌≡◌, bit_xor, slice_index};
+ghost use Rattle.hash.specs.Keccak.{blank, constants, distance, effect, five, permuted, rotated, round, state, θ, ι, π, ρ, χ};
+ghost use Rattle.hash.specs.Lanes.{lanes_of, χ_row};
+
+use std::array;
 
 // A row of five lanes, those with one y; FIPS 202 calls it a plane.
 #[derive(Clone, Copy)]
@@ -88,22 +90,19 @@ fn round_constants() -> [u64; 24]
     ROUND_CONSTANTS
 }
 
-// How far ρ turns a lane.
-fn distance(x: usize, y: usize) -> u32
-    requires { (x < 5) × (y < 5) }
-    ensures { result ≡ distance x y }
+// How far ρ turns each lane.
+fn rotations() -> [[u32; 5]; 5]
+    ensures { result ≡ state distance }
 {
-    ROTATIONS[y][x]
+    ROTATIONS
 }
 
 // The sum of two rows, lane by lane.
 pub(crate) fn xor(a: Plane, b: Plane) -> Plane
     ensures { result.lanes ≡ five (λ x. bit_xor (slice_index a.lanes x) (slice_index b.lanes x)) }
 {
-    let [a0, a1, a2, a3, a4] = a.lanes;
-    let [b0, b1, b2, b3, b4] = b.lanes;
     Plane {
-        lanes: [a0 ^ b0, a1 ^ b1, a2 ^ b2, a3 ^ b3, a4 ^ b4],
+        lanes: array::from_fn(|x| a.lanes[x] ^ b.lanes[x]),
     }
 }
 
@@ -112,79 +111,104 @@ fn theta_effect(s: State) -> Plane
     ensures { result.lanes ≡ five (effect (lanes_of s)) }
 {
     let sums = xor(xor(xor(xor(s.y0, s.y1), s.y2), s.y3), s.y4);
-    let [c0, c1, c2, c3, c4] = sums.lanes;
+    let c = sums.lanes;
     Plane {
-        lanes: [
-            c4 ^ c1.rotate_left(1),
-            c0 ^ c2.rotate_left(1),
-            c1 ^ c3.rotate_left(1),
-            c2 ^ c4.rotate_left(1),
-            c3 ^ c0.rotate_left(1),
-        ],
+        lanes: array::from_fn(|x| c[(x + 4) % 5] ^ c[(x + 1) % 5].rotate_left(1)),
     }
 }
 
-// Lane x of row y after θ and ρ.
-fn theta_rho(row: Plane, effect: Plane, x: usize, y: usize) -> u64
-    requires { (x < 5) × (y < 5) }
-    ensures { result ≡ rotated (bit_xor (slice_index row.lanes x) (slice_index effect.lanes x)) (distance x y) }
+fn theta(s: State) -> State
+    ensures { lanes_of result ≡ θ (lanes_of s) }
 {
-    (row.lanes[x] ^ effect.lanes[x]).rotate_left(distance(x, y))
+    let effect = theta_effect(s);
+    State {
+        y0: xor(s.y0, effect),
+        y1: xor(s.y1, effect),
+        y2: xor(s.y2, effect),
+        y3: xor(s.y3, effect),
+        y4: xor(s.y4, effect),
+    }
 }
 
-// Row y after θ, ρ and π.
-fn theta_rho_pi(s: State, effect: Plane, y: usize) -> Plane
-    requires { y < 5 }
-    ensures { result.lanes ≡ moved (lanes_of s) effect.lanes y }
+// A row of which each lane is turned by its own distance.
+fn turned(row: Plane, distances: [u32; 5]) -> Plane
+    ensures { result.lanes ≡ five (λ x. rotated (slice_index row.lanes x) (slice_index distances x)) }
 {
     Plane {
-        lanes: [
-            theta_rho(s.y0, effect, (3 * y) % 5, 0),
-            theta_rho(s.y1, effect, (1 + 3 * y) % 5, 1),
-            theta_rho(s.y2, effect, (2 + 3 * y) % 5, 2),
-            theta_rho(s.y3, effect, (3 + 3 * y) % 5, 3),
-            theta_rho(s.y4, effect, (4 + 3 * y) % 5, 4),
-        ],
+        lanes: array::from_fn(|x| row.lanes[x].rotate_left(distances[x])),
+    }
+}
+
+fn rho(s: State) -> State
+    ensures { lanes_of result ≡ ρ (lanes_of s) }
+{
+    let [n0, n1, n2, n3, n4] = rotations();
+    State {
+        y0: turned(s.y0, n0),
+        y1: turned(s.y1, n1),
+        y2: turned(s.y2, n2),
+        y3: turned(s.y3, n3),
+        y4: turned(s.y4, n4),
+    }
+}
+
+fn pi(s: State) -> State
+    ensures { lanes_of result ≡ π (lanes_of s) }
+{
+    let [a0, a1, a2, a3, a4] = s.y0.lanes;
+    let [b0, b1, b2, b3, b4] = s.y1.lanes;
+    let [c0, c1, c2, c3, c4] = s.y2.lanes;
+    let [d0, d1, d2, d3, d4] = s.y3.lanes;
+    let [e0, e1, e2, e3, e4] = s.y4.lanes;
+    let y0 = [a0, b1, c2, d3, e4];
+    let y1 = [a3, b4, c0, d1, e2];
+    let y2 = [a1, b2, c3, d4, e0];
+    let y3 = [a4, b0, c1, d2, e3];
+    let y4 = [a2, b3, c4, d0, e1];
+    State {
+        y0: Plane { lanes: y0 },
+        y1: Plane { lanes: y1 },
+        y2: Plane { lanes: y2 },
+        y3: Plane { lanes: y3 },
+        y4: Plane { lanes: y4 },
     }
 }
 
 // A row after χ.
-fn chi(row: Plane) -> Plane
+fn chi_row(row: Plane) -> Plane
     ensures { result.lanes ≡ χ_row row.lanes }
 {
-    let [a0, a1, a2, a3, a4] = row.lanes;
+    let a = row.lanes;
     Plane {
-        lanes: [
-            a0 ^ (!a1 & a2),
-            a1 ^ (!a2 & a3),
-            a2 ^ (!a3 & a4),
-            a3 ^ (!a4 & a0),
-            a4 ^ (!a0 & a1),
-        ],
+        lanes: array::from_fn(|x| a[x] ^ (!a[(x + 1) % 5] & a[(x + 2) % 5])),
     }
 }
 
-// The first row after ι.
-fn iota(row: Plane, constant: u64) -> Plane
-    ensures { result.lanes ≡ slice_set row.lanes 0 (bit_xor (slice_index row.lanes 0) constant) }
+fn chi(s: State) -> State
+    ensures { lanes_of result ≡ χ (lanes_of s) }
 {
-    let mut lanes = row.lanes;
-    lanes[0] ^= constant;
-    Plane { lanes }
+    State {
+        y0: chi_row(s.y0),
+        y1: chi_row(s.y1),
+        y2: chi_row(s.y2),
+        y3: chi_row(s.y3),
+        y4: chi_row(s.y4),
+    }
 }
 
-// All five steps. Each row is finished before the next is begun, so that few lanes are in hand at a time.
+fn iota(s: State, constant: u64) -> State
+    ensures { lanes_of result ≡ ι constant (lanes_of s) }
+{
+    let mut y0 = s.y0;
+    y0.lanes[0] ^= constant;
+    State { y0, ..s }
+}
+
+// All five steps.
 fn round(s: State, constant: u64) -> State
     ensures { lanes_of result ≡ round constant (lanes_of s) }
 {
-    let effect = theta_effect(s);
-    State {
-        y0: iota(chi(theta_rho_pi(s, effect, 0)), constant),
-        y1: chi(theta_rho_pi(s, effect, 1)),
-        y2: chi(theta_rho_pi(s, effect, 2)),
-        y3: chi(theta_rho_pi(s, effect, 3)),
-        y4: chi(theta_rho_pi(s, effect, 4)),
-    }
+    iota(chi(pi(rho(theta(s)))), constant)
 }
 
 // Keccak-f[1600].

@@ -20,7 +20,7 @@ impl Absorb<BLOCK> for ShaBlocks {
     ghost answer = { λ s. digest_from s.chain.words (64 * s.count) };
 
     fn absorb(&mut self, block: &[u8]) {
-        self.chain = compress(self.chain, block);
+        self.chain = compress(self.chain, block.first_chunk().unwrap());
         self.count = self.count.wrapping_add(1);
     }
 }

@@ -1,14 +1,13 @@
-use Rattle.std.proofs.Common.{◌≡◌, length, get_or, ◌∙◌, arith, rules}
-use Rattle.std.proofs.lemmas.List.{places}
-use Rattle.hash.proofs.ShaLaws.{chain_bytes_all, chain_bytes_more, word_bytes}
+use Rattle.std.proofs.Common.{get_or, [], ◌∙◌, rules}
+use Rattle.std.proofs.lemmas.List.Folds.{flat_map-map}
+use Rattle.hash.specs.Sha256.{big_endian}
+use Rattle.hash.proofs.ShaLaws.{word_bytes}
+use Rattle.hash.proofs.Words.{mapped}
 use Rattle.hash.proofs.compression.chain_bytes.Goals as goal
-
-pub loop-i-preserved : goal.loop-i-preserved
-loop-i-preserved c =
-    let h : length c.args.chain.words ≡ 8 = search rules in
-    (search (rules, places), chain_bytes_more c.args.chain.words c.loop-i.out c.copy_from_slice.new.self c.loop-i.i (omega arith) (omega arith) c.loop-i.invariant.1 (c.copy_from_slice.ensures.after ∙ c.to_be_bytes.ensures ∙ word_bytes (get_or c.args.chain.words c.loop-i.i 0)))
 
 pub returns : goal.returns
 returns c =
-    let h : length c.args.chain.words ≡ 8 = search rules in
-    chain_bytes_all c.args.chain.words c.loop-i.out c.loop-i.i (omega arith) (omega arith) c.loop-i.invariant.1
+    let x = c.args.chain.words in
+    let made = c.map.ensures.items in
+    let bytes = mapped (big_endian 4) 8 x c.map.result 0 [] (search rules) made.long (λ k l. (made.at k 0 [] l).2.met ∙ word_bytes (get_or x k 0)) in
+    c.copy_from_slice.ensures.after ∙ c.as_flattened.ensures.value ∙ rw bytes (flat_map-map (λ b. b) (big_endian 4) x)

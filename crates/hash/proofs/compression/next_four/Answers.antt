@@ -5,5 +5,5 @@ use Rattle.hash.proofs.compression.next_four.Goals as goal
 pub returns : goal.returns
 returns c =
     let w = c.args.w in
-    rw (c.small_sigma_1-2.ensures, c.small_sigma_1.ensures, c.small_sigma_0.ensures)
+    rw (c.small_sigma-3.ensures, c.small_sigma-2.ensures, c.small_sigma.ensures)
     (following_is w.first w.second w.third w.fourth (search rules) (search rules) (search rules) (search rules))

@@ -1,14 +1,13 @@
 use Rattle.std.proofs.Common.{rules}
-use Rattle.hash.specs.Sha256.{ch, round, Σ₁}
-use Rattle.hash.specs.Windows.{working_of}
+use Rattle.hash.specs.Sha256.{ch, round, started, Σ₁}
 use Rattle.hash.proofs.BitLaws.{choice_is, majority_is}
 use Rattle.hash.proofs.RoundLaws.{round_order}
 use Rattle.hash.proofs.compression.round.Goals as goal
 
 pub returns : goal.returns
-unfolding round working_of
+unfolding round
 returns c =
-    let v = c.args.v in
-    let choice = choice_is 32 v.e v.f v.g (search rules) (search rules) in
-    let majority = majority_is 32 v.a v.b v.c (search rules) (search rules) (search rules) in
-    rw (c.big_sigma_0.ensures, c.big_sigma_1.ensures, choice, majority, round_order v.h c.args.kw (ch v.e v.f v.g) (Σ₁ v.e))
+    let v = started c.args.v in
+    let choice = choice_is v.e v.f v.g (search rules) (search rules) in
+    let majority = majority_is v.a v.b v.c in
+    rw (c.big_sigma.ensures, c.big_sigma-2.ensures, choice, majority, round_order v.h c.args.kw (ch v.e v.f v.g) (Σ₁ v.e))

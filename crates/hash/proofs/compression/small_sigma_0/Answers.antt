@@ -1,5 +1,0 @@
-use Rattle.hash.proofs.Words.{written_out}
-use Rattle.hash.proofs.compression.small_sigma_0.Goals as goal
-
-pub returns : goal.returns
-returns c = rw (written_out 4 c.args.x c.fits-x.0)
