@@ -1,4 +1,4 @@
-use Rattle.std.proofs.Common.{◌+◌, ◌*◌, ◌%◌, ◌^◌, sym, ap, ◌∙◌, arith}
+use Rattle.std.proofs.Common.{◌+◌, ◌*◌, ◌%◌, ◌^◌, sym, ap, ◌∙◌, arith, rules}
 use mathlib.Core.Path.{fun_ext}
 use Rattle.hash.specs.Sha256.{digest_from}
 use Rattle.hash.proofs.ShaLaws.{digest_block, digest-mod}
@@ -12,4 +12,4 @@ returns c =
     fun_ext (λ m.
     ap (λ x. digest_from x last m) c.compress-self.ensures
     ∙ digest-mod _ last next m (omega arith)
-    ∙ sym (digest_block self.chain.words c.args.block.now m (64 * self.count) c.requires))
+    ∙ sym (digest_block self.chain.words c.args.block.now m (64 * self.count) (search rules)))

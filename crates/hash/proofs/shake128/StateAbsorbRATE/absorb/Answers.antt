@@ -1,4 +1,4 @@
-use Rattle.std.proofs.Common.{sym, ap, ◌∙◌}
+use Rattle.std.proofs.Common.{sym, ap, ◌∙◌, rules}
 use mathlib.Core.Path.{fun_ext}
 use Rattle.hash.specs.Keccak.{permuted}
 use Rattle.hash.specs.Lanes.{lanes_of}
@@ -8,4 +8,4 @@ use Rattle.hash.proofs.shake128.StateAbsorbRATE.absorb.Goals as goal
 
 pub returns : goal.returns
 returns c =
-    fun_ext (λ m. ap squeezed (ap (λ A. sponge A m) (c.permute.ensures ∙ ap permuted c.mix.ensures) ∙ sym (sponge_block (lanes_of c.args.self.now) c.args.block.now m c.requires)))
+    fun_ext (λ m. ap squeezed (ap (λ A. sponge A m) (c.permute.ensures ∙ ap permuted c.mix.ensures) ∙ sym (sponge_block (lanes_of c.args.self.now) c.args.block.now m (search rules))))
