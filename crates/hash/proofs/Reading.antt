@@ -1,9 +1,10 @@
 -- Laws of reading.
-use Rattle.std.proofs.Common.{◌≡◌, ℕ, zero, suc, ◌+◌, ◌-◌, ◌<◌, ◌≤◌, List, [], ◌∷◌, ◌++◌, length, get_or, take, drop, sym, refl, ap, ◌∙◌, subst, le_of_suc-le-suc, mod-eq_of_lt, suc-add, zero-add, add-one, arith, length-drop, length-take}
+use Rattle.std.proofs.Common.{◌≡◌, ℕ, zero, suc, ◌+◌, ◌-◌, ◌<◌, ◌≤◌, List, [], ◌∷◌, ◌++◌, length, get_or, take, drop, sym, refl, ap, ◌∙◌, rules, le_of_suc-le-suc, mod-eq_of_lt, suc-add, zero-add, add-one, arith, length-drop, length-take}
 use mathlib.Core.Path.{fun_ext}
 use native.Mathlib.Nat.{add-div_left, add-mod_left, div-eq_of_lt, sub-zero}
 use borrow.Rule.Slice.PartMut.{put_mid}
-use Rattle.std.proofs.lemmas.List.{append-nil, drop_all, drop-drop, drop-take, get_or-take, length-take-le, take_all, take-take}
+use Rattle.std.proofs.lemmas.Slice.{overwrites}
+use Rattle.std.proofs.lemmas.List.{drop-drop, drop-take, get_or-take, length-take-le, take_all, take-take}
 use Rattle.hash.specs.Blocks.{in_blocks}
 use Rattle.hash.specs.Rows.{Row, past, front, ahead, unread, Gives}
 
@@ -101,10 +102,9 @@ unread_fresh buffer n row left g = simp (sub-zero, g.filled, g.rest, take_all n 
 pub gives_rest : (m : ℕ) (row middle left : Row) (out more : List ℕ) → m ≤ length out → Gives m row (take m out) middle → Gives (length (take (length out - m) (drop m out))) middle more left → Gives (length out) row (put_mid m (length out - m) out more) left
 gives_rest m row middle left out more h a b =
     let n = length (take (length out - m) (drop m out)) in
-    let all : m + n ≡ length out = simp (length-take, length-drop) (omega arith) in
-    let none : drop (length out - m) (drop m out) ≡ [] = drop-drop (length out - m) m out ∙ drop_all (m + (length out - m)) out (omega arith) in
-    let bytes : put_mid m (length out - m) out more ≡ take m out ++ more = rw (none, append-nil) in
-    rw bytes (subst (λ k. Gives k row (take m out ++ more) left) all (gives_more m n (m + n) row middle left (take m out) more refl a b))
+    let all : length out ≡ m + n = simp (length-take, length-drop) (omega arith) in
+    let bytes : put_mid m (length out - m) out more ≡ take m out ++ more = search (rules, overwrites) in
+    rw bytes (gives_more m n (length out) row middle left (take m out) more all a b)
 
 -- the first of a row's blocks
 pub blocks_give : (size : ℕ) (blocks : ℕ → List ℕ) → 0 < size → size ≤ length (blocks 0) → Gives size (in_blocks size blocks) (take size (blocks 0)) (in_blocks size (λ n. blocks (suc n)))

@@ -68,6 +68,7 @@ impl<S: Squeeze<SIZE>, const SIZE: usize> BlockOutput<S, SIZE> {
         requires { self.old.place ≡ SIZE }
         ensures { Gives (length out.old) (S.Squeeze.row self.old.below) out.new (output_row S.Squeeze.row self.new) }
     {
+        // Not by `as_chunks_mut`: of what is written through it a proof knows no element.
         let mut done = 0;
         while out.len() - done >= SIZE {
             out[done..done + SIZE].copy_from_slice(&self.below.squeeze());

@@ -36,7 +36,7 @@ impl<F: Feeder> Feeder for BlockInput<F, Held<CAPACITY>> {
         self.put(bytes);
     }
 
-    fn turn(self) -> F::Reader {
+    fn turn(self) -> Self::Reader {
         let BlockInput { mut below, held } = self;
         below.feed(held.bytes());
         below.turn()
@@ -50,7 +50,7 @@ impl<H: Hash> Hash for Buffered<H> {
 
     ghost bytes = { Prim.search rules };
 
-    fn start() -> BlockInput<H::Feeder, Held<CAPACITY>> {
+    fn start() -> Self::Feeder {
         BlockInput::new(H::start())
     }
 }

@@ -34,7 +34,7 @@ impl Squeeze<DIGEST> for Mgf1Blocks {
 // MGF1 over SHA-256.
 pub struct Mgf1Sha256;
 
-// The seed as far as it is fed.
+// The seed, as far as it is fed. A type of its own, since SHA-256 by itself has no endless output.
 pub struct Mgf1Sha256Feeder {
     seed: Sha256,
 }
@@ -46,7 +46,7 @@ impl Hash for Mgf1Sha256 {
 
     ghost bytes = { unfold mgf1 SpecsSha256.sha256 in λ m k. digest_below initial 0 _ _ };
 
-    fn start() -> Mgf1Sha256Feeder {
+    fn start() -> Self::Feeder {
         Mgf1Sha256Feeder {
             seed: Sha256::new(),
         }
@@ -62,7 +62,7 @@ impl Feeder for Mgf1Sha256Feeder {
         self.seed.update(bytes);
     }
 
-    fn turn(self) -> BlockOutput<Mgf1Blocks, DIGEST> {
+    fn turn(self) -> Self::Reader {
         let Mgf1Sha256Feeder { seed } = self;
         BlockOutput::new(Mgf1Blocks { seed, counter: 0 })
     }

@@ -56,11 +56,8 @@ impl Sha256 {
     pub fn finish(self) -> [u8; DIGEST]
         ensures { result ≡ pending self [] }
     {
-        let BlockInput {
-            below: blocks,
-            held,
-        } = self.input;
-        let held = held.bytes();
+        let blocks = self.input.below;
+        let held = self.input.held.bytes();
         let whole = blocks.count.wrapping_mul(BLOCK as u64);
         let total = whole.wrapping_add(held.len() as u64);
         finish(blocks.chain, total, held)

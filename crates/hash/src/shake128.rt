@@ -53,10 +53,10 @@ fn mix(state: State, block: &[u8; RATE]) -> State
 }
 
 // The bytes of a row, the low byte of each lane first.
-fn row_bytes(row: Plane) -> [[u8; 8]; 5]
-    ensures { flat_map (λ bytes. bytes) result ≡ lane_bytes row.lanes }
+fn row_bytes(row: [u64; 5]) -> [[u8; 8]; 5]
+    ensures { flat_map (λ bytes. bytes) result ≡ lane_bytes row }
 {
-    let [a, b, c, d, e] = row.lanes;
+    let [a, b, c, d, e] = row;
     [
         a.to_le_bytes(),
         b.to_le_bytes(),
@@ -70,12 +70,13 @@ fn row_bytes(row: Plane) -> [[u8; 8]; 5]
 fn front_block(state: State) -> [u8; RATE]
     ensures { result ≡ take 168 (state_bytes (lanes_of state)) }
 {
+    let [a, b, c, d, e] = state.rows();
     let rows = [
-        row_bytes(state.y0),
-        row_bytes(state.y1),
-        row_bytes(state.y2),
-        row_bytes(state.y3),
-        row_bytes(state.y4),
+        row_bytes(a),
+        row_bytes(b),
+        row_bytes(c),
+        row_bytes(d),
+        row_bytes(e),
     ];
     let bytes = rows.as_flattened().as_flattened();
     let mut block = [0; RATE];
@@ -130,7 +131,7 @@ impl Hash for Shake128 {
 
     ghost bytes = { shake128_below };
 
-    fn start() -> BlockInput<State, Held<RATE>> {
+    fn start() -> Self::Feeder {
         BlockInput::new(State::blank())
     }
 }
@@ -146,7 +147,7 @@ impl Feeder for BlockInput<State, Held<RATE>> {
         self.put(bytes);
     }
 
-    fn turn(self) -> BlockOutput<State, RATE> {
+    fn turn(self) -> Self::Reader {
         BlockOutput::new(mix(self.below, &padded(self.held.bytes())))
     }
 }
