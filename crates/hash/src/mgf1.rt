@@ -34,7 +34,7 @@ impl Squeeze<DIGEST> for Mgf1Blocks {
 // MGF1 over SHA-256.
 pub struct Mgf1Sha256;
 
-// The seed, as far as it is fed. A type of its own, since SHA-256 by itself has no endless output.
+// The seed, as far as it is fed. Unlike `Sha256` it is not `Copy`, so that nothing can be fed after the turn.
 pub struct Mgf1Sha256Feeder {
     seed: Sha256,
 }

@@ -96,16 +96,18 @@ fn padded(held: &[u8]) -> [u8; RATE]
     block
 }
 
-// Between two blocks.
-impl Absorb<RATE> for State {
+// The state between two blocks. It is not `Copy`, so that nothing can be fed after the turn.
+pub struct Sponge(State);
+
+impl Absorb<RATE> for Sponge {
     ghost Answer = { Row };
 
-    ghost answer = { λ s m. squeezed (sponge (lanes_of s) m) };
+    ghost answer = { λ s m. squeezed (sponge (lanes_of s.0) m) };
 
     ghost size = { Prim.search rules };
 
     fn absorb(&mut self, block: &[u8; RATE]) {
-        *self = permute(mix(*self, block));
+        self.0 = permute(mix(self.0, block));
     }
 }
 
@@ -125,29 +127,33 @@ impl Squeeze<RATE> for State {
 pub struct Shake128;
 
 impl Hash for Shake128 {
-    type Feeder = BlockInput<State, Held<RATE>>;
+    type Feeder = BlockInput<Sponge, Held<RATE>>;
 
     ghost rule = { shake128 };
 
     ghost bytes = { shake128_below };
 
     fn start() -> Self::Feeder {
-        BlockInput::new(State::blank())
+        BlockInput::new(Sponge(State::blank()))
     }
 }
 
-impl Feeder for BlockInput<State, Held<RATE>> {
+impl Feeder for BlockInput<Sponge, Held<RATE>> {
     ghost use Rattle.hash.specs.Layers.{input_answer};
 
     type Reader = BlockOutput<State, RATE>;
 
-    ghost rule = { λ f. input_answer (λ s m. squeezed (sponge (lanes_of s) m)) f };
+    ghost rule = { λ f. input_answer (λ s m. squeezed (sponge (lanes_of s.0) m)) f };
 
     fn feed(&mut self, bytes: &[u8]) {
         self.put(bytes);
     }
 
     fn turn(self) -> Self::Reader {
-        BlockOutput::new(mix(self.below, &padded(self.held.bytes())))
+        let BlockInput {
+            below: Sponge(state),
+            held,
+        } = self;
+        BlockOutput::new(mix(state, &padded(held.bytes())))
     }
 }
