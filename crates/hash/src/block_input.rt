@@ -1,5 +1,5 @@
 // Input in pieces of any length, for what takes whole blocks.
-ghost use Rattle.std.specs.Prelude.{◌≡◌, ℕ, ◌+◌, ◌^◌, ◌<◌, List, ◌++◌, length, take};
+ghost use Rattle.std.specs.Prelude.{◌≡◌, ℕ, ◌+◌, ◌^◌, ◌<◌, List, length, take};
 ghost use Rattle.hash.specs.Rows.{after};
 
 // What takes its input in blocks of `SIZE` bytes.

@@ -1,5 +1,5 @@
 // Output in pieces of any length, from what gives whole blocks.
-ghost use Rattle.std.specs.Prelude.{◌≡◌, ◌+◌, ◌-◌, ◌^◌, ◌<◌, ◌≤◌, length, take};
+ghost use Rattle.std.specs.Prelude.{◌≡◌, ◌+◌, ◌<◌, ◌≤◌, length};
 ghost use Rattle.hash.specs.Rows.{Gives, Row};
 
 use crate::interface::Reader;

@@ -6,7 +6,7 @@ ghost use Rattle.std.proofs.Common.{rules};
 ghost use Rattle.hash.specs.Keccak.{permuted};
 ghost use Rattle.hash.specs.Lanes.{lanes_of};
 ghost use Rattle.hash.specs.Rows.{Row};
-ghost use Rattle.hash.specs.Shake128.{mixed, padding, shake128, sponge, squeezed, state_bytes, lane_bytes};
+ghost use Rattle.hash.specs.Shake128.{lane_bytes, mixed, padding, shake128, sponge, squeezed, state_bytes};
 ghost use Rattle.hash.specs.RowBytes.{shake128_below};
 
 use crate::block_input::{Absorb, BlockInput, Held};
