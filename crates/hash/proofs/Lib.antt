@@ -1,3 +1,4 @@
+pub mod Chunks
 pub mod Feeding
 pub mod Reading
 pub mod Words

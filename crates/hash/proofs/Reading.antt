@@ -1,9 +1,10 @@
 -- Laws of reading.
-use Rattle.std.proofs.Common.{◌≡◌, ℕ, zero, suc, ◌+◌, ◌-◌, ◌<◌, ◌≤◌, List, [], ◌∷◌, ◌++◌, length, get_or, take, drop, sym, refl, ap, ◌∙◌, subst, le_of_suc-le-suc, mod-eq_of_lt, suc-add, zero-add, add-one, arith, length-append, length-drop, length-take}
+use Rattle.std.proofs.Common.{◌≡◌, ℕ, zero, suc, ◌+◌, ◌-◌, ◌<◌, ◌≤◌, List, [], ◌∷◌, ◌++◌, length, get_or, take, drop, sym, refl, ap, ◌∙◌, rules, le_of_suc-le-suc, mod-eq_of_lt, suc-add, zero-add, add-one, arith, length-drop, length-take}
 use mathlib.Core.Path.{fun_ext}
 use native.Mathlib.Nat.{add-div_left, add-mod_left, div-eq_of_lt, sub-zero}
 use borrow.Rule.Slice.PartMut.{put_mid}
-use Rattle.std.proofs.lemmas.List.{append-nil, drop_all, drop-drop, drop-take, get_or-take, length-take-le, take_at, take-take}
+use Rattle.std.proofs.lemmas.Slice.{overwrites}
+use Rattle.std.proofs.lemmas.List.{drop-drop, drop-take, get_or-take, length-take-le, take_all, take-take}
 use Rattle.hash.specs.Blocks.{in_blocks}
 use Rattle.hash.specs.Rows.{Row, past, front, ahead, unread, Gives}
 
@@ -36,8 +37,9 @@ front_from (suc n) (b ∷ bytes) row h e =
     cc (e 0 (omega arith), front_from n bytes (past 1 row) (omega arith) (λ k l. e (suc k) (omega arith) ∙ ap row (omega arith)))
 
 -- bytes that are read, and then some more
-pub gives_more : (m n : ℕ) (row middle left : Row) (xs ys : List ℕ) → Gives m row xs middle → Gives n middle ys left → Gives (m + n) row (xs ++ ys) left
-gives_more m n row middle left xs ys a b =
+pub gives_more : (m n k : ℕ) (row middle left : Row) (xs ys : List ℕ) → k ≡ m + n → Gives m row xs middle → Gives n middle ys left → Gives k row (xs ++ ys) left
+gives_more m n k row middle left xs ys e a b =
+    rw e
     record {
       filled = simp (a.filled, b.filled, a.rest) (sym (front-add m n row));
       rest = simp (b.rest, a.rest) (past-past m n row);
@@ -93,28 +95,16 @@ unfolding ahead
 unread_none buffer from to row e = let none : to - from ≡ 0 = omega arith in rw none
 
 -- a buffer that has just been filled
-pub unread_fresh : (buffer : List ℕ) (n : ℕ) (row left : Row) → Gives n row (take n buffer) left → unread buffer 0 n left ≡ row
-unread_fresh buffer n row left g = simp (sub-zero, g.filled, g.rest) (ahead-front n row)
+pub unread_fresh : (buffer : List ℕ) (n : ℕ) (row left : Row) → Gives n row buffer left → unread buffer 0 n left ≡ row
+unread_fresh buffer n row left g = simp (sub-zero, g.filled, g.rest, take_all n (front n row) (omega (arith, length-front n row))) (ahead-front n row)
 
 -- bytes of which the first m were given, and the others are given over them
 pub gives_rest : (m : ℕ) (row middle left : Row) (out more : List ℕ) → m ≤ length out → Gives m row (take m out) middle → Gives (length (take (length out - m) (drop m out))) middle more left → Gives (length out) row (put_mid m (length out - m) out more) left
 gives_rest m row middle left out more h a b =
     let n = length (take (length out - m) (drop m out)) in
-    let all : m + n ≡ length out = simp (length-take, length-drop) (omega arith) in
-    let none : drop (length out - m) (drop m out) ≡ [] = drop-drop (length out - m) m out ∙ drop_all (m + (length out - m)) out (omega arith) in
-    let bytes : put_mid m (length out - m) out more ≡ take m out ++ more = rw (none, append-nil) in
-    rw bytes (subst (λ k. Gives k row (take m out ++ more) left) all (gives_more m n row middle left (take m out) more a b))
-
--- bytes of which the first m are given, and then the others
-pub gives_both : (m : ℕ) (row middle left : Row) (old first more : List ℕ) → m ≤ length old → Gives (length (take (m - 0) old)) row first middle → (let out = first ++ drop (m - 0) old in Gives (length (take (length out - m) (drop m out))) middle more left → Gives (length old) row (put_mid m (length out - m) out more) left)
-gives_both m row middle left old first more h a b =
-    let out = first ++ drop (m - 0) old in
-    let n : length (take (m - 0) old) ≡ m = simp (sub-zero, length-take) (omega arith) in
-    let long : length first ≡ m = ap length a.filled ∙ length-front (length (take (m - 0) old)) row ∙ n in
-    let same : length out ≡ length old = simp (length-append, length-drop, sub-zero) (omega arith) in
-    let front : first ≡ take m out = sym (take_at first (drop (m - 0) old) m long) in
-    let given : Gives m row (take m out) middle = subst (λ k. Gives k row (take m out) middle) n (subst (λ l. Gives (length (take (m - 0) old)) row l middle) front a) in
-    subst (λ k. Gives k row (put_mid m (length out - m) out more) left) same (gives_rest m row middle left out more (omega arith) given b)
+    let all : length out ≡ m + n = simp (length-take, length-drop) (omega arith) in
+    let bytes : put_mid m (length out - m) out more ≡ take m out ++ more = search (rules, overwrites) in
+    rw bytes (gives_more m n (length out) row middle left (take m out) more all a b)
 
 -- the first of a row's blocks
 pub blocks_give : (size : ℕ) (blocks : ℕ → List ℕ) → 0 < size → size ≤ length (blocks 0) → Gives size (in_blocks size blocks) (take size (blocks 0)) (in_blocks size (λ n. blocks (suc n)))

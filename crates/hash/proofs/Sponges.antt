@@ -1,8 +1,7 @@
 -- Laws of the sponge: one block more, the last block, and the bytes that come out.
-use Rattle.std.specs.Prelude.{◌≡◌, ℕ, zero, suc, ◌+◌, ◌-◌, ◌/◌, ◌%◌, ◌<◌, List, [], ◌∷◌, ◌++◌, length, take, drop, replicate, bit_xor, slice_index, slice_set, refl}
+use Rattle.std.specs.Prelude.{◌≡◌, ℕ, zero, suc, ◌+◌, ◌-◌, ◌/◌, ◌%◌, ◌<◌, List, [], ◌∷◌, ◌++◌, length, drop, replicate, bit_xor, slice_index, slice_set, refl}
 use Rattle.std.proofs.Common.{ap, sym, ◌∙◌, add-one, arith}
-use borrow.Rule.Slice.PartMut.{put_mid}
-use Rattle.std.proofs.lemmas.List.{append_assoc, append-nil, drop_all, drop-drop, get_or_at, length-append, length-replicate, length-take-le, replicate_more, set_at, take_all, take_at}
+use Rattle.std.proofs.lemmas.List.{append_assoc, append-nil, drop-replicate, get_or_at, length-append, length-replicate, replicate_more, set_at}
 use Rattle.hash.proofs.Feeding.{absorbed_block}
 use Rattle.hash.specs.Blocks.{absorbed}
 use Rattle.hash.specs.Keccak.{Lanes, permuted}
@@ -47,23 +46,8 @@ padded_is m (suc n) h =
     let block = ap (λ l. m ++ 0x1F ∷ l) zeros ∙ sym (append_assoc m (0x1F ∷ replicate n 0) (0 ∷ [])) in
     rw (block, get_or_at front 0 [] 0 167 e, set_at front 0 [] 0x80 167 e) (append_assoc m (0x1F ∷ replicate n 0) (0x80 ∷ []))
 
--- what the code makes of the held bytes before that
-pub marked_block : (count : ℕ) (buffer zeros : List ℕ) → length buffer ≡ 168 → count < 168 → zeros ≡ replicate (168 - count) 0 → slice_set (put_mid count (168 - count) buffer zeros) count 0x1F ≡ take count buffer ++ 0x1F ∷ replicate (167 - count) 0
-marked_block count buffer zeros size room e =
-    let none : drop (168 - count) (drop count buffer) ≡ [] = drop-drop (168 - count) count buffer ∙ drop_all (count + (168 - count)) buffer (omega arith) in
-    let n : 168 - count ≡ suc (167 - count) = omega arith in
-    let filled : put_mid count (168 - count) buffer zeros ≡ take count buffer ++ 0 ∷ replicate (167 - count) 0 = rw (none, append-nil, e, n) in
-    rw (filled, set_at (take count buffer) 0 (replicate (167 - count) 0) 0x1F count (length-take-le count buffer (omega arith)))
-
--- what is written behind what was written before
-pub stored_more : (a b m n : ℕ) (old middle new x y : List ℕ) → a ≡ b → take a middle ≡ take m old ++ x → take n new ≡ take b middle ++ y → take n new ≡ take m old ++ (x ++ y)
-stored_more a b m n old middle new x y e p q = q ∙ ap (λ k. take k middle ++ y) (sym e) ∙ ap (λ l. l ++ y) p ∙ append_assoc (take m old) x y
-
--- rows that are written one after the other, and the beginning of a last one
-pub first_bytes : (n : ℕ) (a b c d e rest row last : List ℕ) → length last ≡ n → take n last ≡ (((a ++ b) ++ c) ++ d) ++ e → row ≡ e ++ rest → last ≡ take n (a ++ (b ++ (c ++ (d ++ (row ++ [])))))
-first_bytes n a b c d e rest row last h p q =
-    let front = (((a ++ b) ++ c) ++ d) ++ e in
-    let same : last ≡ front = sym (take_all n last (omega arith)) ∙ p in
-    let long : length front ≡ n = ap length (sym same) ∙ h in
-    let whole : a ++ (b ++ (c ++ (d ++ (row ++ [])))) ≡ front ++ (rest ++ []) = rw q (simp append_assoc) in
-    same ∙ sym (ap (take n) whole ∙ take_at front (rest ++ []) n long)
+-- held bytes put into a block of zeros, and a mark behind them
+pub marked_block : (n mark k : ℕ) (held front : List ℕ) → front ≡ held → k ≡ length held → length held < n → slice_set (front ++ drop k (replicate n 0)) (length held) mark ≡ held ++ mark ∷ replicate (n - 1 - length held) 0
+marked_block n mark k held front e f h =
+    let left : n - length held ≡ suc (n - 1 - length held) = omega arith in
+    rw (e, f, drop-replicate {X = ℕ} (length held) n 0, left) (set_at held 0 (replicate (n - 1 - length held) 0) mark (length held) refl)

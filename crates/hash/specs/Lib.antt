@@ -7,5 +7,6 @@ pub mod Sha256
 pub mod Mgf1
 pub mod Lanes
 pub mod Windows
+pub mod Layers
 pub mod Digest
 pub mod RowBytes

@@ -1,5 +1,6 @@
 -- SHAKE128 of FIPS 202: padding, absorbing blocks of 168 bytes, squeezing. Assumes nothing.
 use Rattle.std.specs.Prelude.{ℕ, zero, suc, ◌+◌, ◌-◌, ◌*◌, ◌/◌, ◌%◌, List, [], ◌∷◌, ◌++◌, length, take, drop, replicate}
+use Rattle.std.specs.List.{flat_map}
 use Rattle.std.specs.Simd.Lanes.{number_l, digits_l}
 use Rattle.hash.specs.Blocks.{absorbed, in_blocks}
 use Rattle.hash.specs.Keccak.{Lanes, blank, lane, permuted, state}
@@ -33,12 +34,10 @@ sponge A m = absorbed absorb 168 (length m / 168 + 1) A (m ++ padding (length m)
 
 -- the bytes of lanes, the low byte of each first
 abbrev pub lane_bytes : List ℕ → List ℕ
-lane_bytes [] = []
-lane_bytes (w ∷ ws) = digits_l 256 8 w ++ lane_bytes ws
+lane_bytes lanes = flat_map (digits_l 256 8) lanes
 
 abbrev pub state_bytes : Lanes → List ℕ
-state_bytes [] = []
-state_bytes (row ∷ rows) = lane_bytes row ++ state_bytes rows
+state_bytes rows = flat_map lane_bytes rows
 
 abbrev pub permuted_times : ℕ → Lanes → Lanes
 permuted_times zero A = A

@@ -1,8 +1,8 @@
 // A layer over any hash that collects up to 64 fed bytes before it hands them down.
-ghost use Rattle.hash.specs.Rows.{Row, holding};
+ghost use Rattle.hash.specs.Rows.{Row};
 ghost use Rattle.std.proofs.Common.{rules};
 
-use crate::block_input::{Absorb, Held, feed};
+use crate::block_input::{Absorb, BlockInput, Held};
 use crate::interface::{Feeder, Hash};
 
 // How many bytes are handed down at a time.
@@ -17,44 +17,40 @@ impl<F: Feeder> Absorb<CAPACITY> for F {
 
     ghost answer = { λ f. F.Feeder.rule f };
 
-    fn absorb(&mut self, block: &[u8]) {
+    ghost size = { Prim.search rules };
+
+    fn absorb(&mut self, block: &[u8; CAPACITY]) {
         self.feed(block);
     }
 }
 
 // A feeder behind a buffer.
-pub struct BufferedFeeder<F> {
-    below: F,
-    held: Held<CAPACITY>,
-}
+impl<F: Feeder> Feeder for BlockInput<F, Held<CAPACITY>> {
+    ghost use Rattle.hash.specs.Layers.{input_answer};
 
-impl<F: Feeder> Feeder for BufferedFeeder<F> {
     type Reader = F::Reader;
 
-    ghost rule = { λ f. holding f.held.buffer f.held.count (F.Feeder.rule f.below) };
+    ghost rule = { λ f. input_answer F.Feeder.rule f };
 
     fn feed(&mut self, bytes: &[u8]) {
-        feed(&mut self.below, &mut self.held, bytes);
+        self.put(bytes);
     }
 
-    fn turn(self) -> F::Reader {
-        let BufferedFeeder { mut below, held } = self;
-        below.feed(&held.buffer[0..held.count]);
+    fn turn(self) -> Self::Reader {
+        let BlockInput { mut below, held } = self;
+        below.feed(held.bytes());
         below.turn()
     }
 }
 
 impl<H: Hash> Hash for Buffered<H> {
-    type Feeder = BufferedFeeder<H::Feeder>;
+    type Feeder = BlockInput<H::Feeder, Held<CAPACITY>>;
 
     ghost rule = { H.Hash.rule };
 
     ghost bytes = { Prim.search rules };
 
-    fn start() -> BufferedFeeder<H::Feeder> {
-        BufferedFeeder {
-            below: H::start(),
-            held: Held::new(),
-        }
+    fn start() -> Self::Feeder {
+        BlockInput::new(H::start())
     }
 }

@@ -1,125 +1,113 @@
 // SHAKE128: a sponge over Keccak-f[1600] with blocks of 168 bytes.
-ghost use Rattle.std.specs.Prelude.{◌≡◌, ◌+◌, ◌*◌, ◌<◌, ◌≤◌, ◌++◌, length, take, drop};
-ghost use Rattle.std.specs.Simd.Lanes.{digits_l, number_l};
-ghost use Rattle.hash.specs.Keccak.{five, permuted};
+ghost use Rattle.std.specs.Prelude.{◌≡◌, ◌<◌, ◌++◌, length, map, take};
+ghost use Rattle.std.specs.List.{flat_map};
+ghost use Rattle.std.specs.Simd.Lanes.{number_l};
+ghost use Rattle.std.proofs.Common.{rules};
+ghost use Rattle.hash.specs.Keccak.{permuted};
 ghost use Rattle.hash.specs.Lanes.{lanes_of};
-ghost use Rattle.hash.specs.Rows.{Row, holding, unread};
+ghost use Rattle.hash.specs.Rows.{Row};
 ghost use Rattle.hash.specs.Shake128.{lane_bytes, mixed, padding, shake128, sponge, squeezed, state_bytes};
 ghost use Rattle.hash.specs.RowBytes.{shake128_below};
 
-use crate::block_input::{Absorb, Held, LONGEST, feed};
+use crate::block_input::{Absorb, BlockInput, Held};
 use crate::block_output::{BlockOutput, Squeeze};
-use crate::interface::{Feeder, Hash, Reader};
+use crate::interface::{Feeder, Hash};
 use crate::keccak::{Plane, State, permute, xor};
 
 // The length of a block.
-const RATE: usize = LONGEST;
+const RATE: usize = 168;
 
-// The word of eight bytes at a place, the low byte first.
-fn load(block: &[u8], place: usize) -> u64
-    requires { place + 8 ≤ length block.now }
-    ensures { result ≡ number_l 256 (take 8 (drop place block.now)) }
+// The word of eight bytes, the low byte first.
+fn load(bytes: [u8; 8]) -> u64
+    ensures { result ≡ number_l 256 bytes }
 {
-    u64::from_le_bytes([
-        block[place],
-        block[place + 1],
-        block[place + 2],
-        block[place + 3],
-        block[place + 4],
-        block[place + 5],
-        block[place + 6],
-        block[place + 7],
-    ])
+    u64::from_le_bytes(bytes)
 }
 
-// Five words from a place on.
-fn load_row(block: &[u8], place: usize) -> Plane
-    requires { place + 40 ≤ length block.now }
-    ensures { result.lanes ≡ five (λ x. number_l 256 (take 8 (drop (place + 8 * x) block.now))) }
+// A row of words.
+fn load_row(words: [[u8; 8]; 5]) -> Plane
+    ensures { result.lanes ≡ map (number_l 256) words }
 {
+    let [a, b, c, d, e] = words;
     Plane {
-        lanes: [
-            load(block, place),
-            load(block, place + 8),
-            load(block, place + 16),
-            load(block, place + 24),
-            load(block, place + 32),
-        ],
+        lanes: [load(a), load(b), load(c), load(d), load(e)],
     }
 }
 
 // Adds a block to the state.
-fn mix(state: State, block: &[u8]) -> State
-    requires { length block.now ≡ 168 }
+fn mix(state: State, block: &[u8; RATE]) -> State
     ensures { lanes_of result ≡ mixed (lanes_of state) block.now }
 {
+    let (words, _) = block.as_chunks::<8>();
+    let (rows, last) = words.as_chunks::<5>();
     let last = Plane {
-        lanes: [load(block, 160), 0, 0, 0, 0],
+        lanes: [load(last[0]), 0, 0, 0, 0],
     };
     State {
-        y0: xor(state.y0, load_row(block, 0)),
-        y1: xor(state.y1, load_row(block, 40)),
-        y2: xor(state.y2, load_row(block, 80)),
-        y3: xor(state.y3, load_row(block, 120)),
+        y0: xor(state.y0, load_row(rows[0])),
+        y1: xor(state.y1, load_row(rows[1])),
+        y2: xor(state.y2, load_row(rows[2])),
+        y3: xor(state.y3, load_row(rows[3])),
         y4: xor(state.y4, last),
     }
 }
 
-// Writes a word at a place, the low byte first.
-fn store(block: &mut [u8], place: usize, word: u64)
-    requires { place + 8 ≤ length block.old }
-    ensures length { length block.new ≡ length block.old }
-    ensures written { take (place + 8) block.new ≡ take place block.old ++ digits_l 256 8 word }
+// The bytes of a row, the low byte of each lane first.
+fn row_bytes(row: [u64; 5]) -> [[u8; 8]; 5]
+    ensures { flat_map (λ bytes. bytes) result ≡ lane_bytes row }
 {
-    block[place..place + 8].copy_from_slice(&word.to_le_bytes());
+    let [a, b, c, d, e] = row;
+    [
+        a.to_le_bytes(),
+        b.to_le_bytes(),
+        c.to_le_bytes(),
+        d.to_le_bytes(),
+        e.to_le_bytes(),
+    ]
 }
 
-// Writes a row at a place.
-fn store_row(block: &mut [u8], place: usize, row: Plane)
-    requires { place + 40 ≤ length block.old }
-    ensures length { length block.new ≡ length block.old }
-    ensures written { take (place + 40) block.new ≡ take place block.old ++ lane_bytes row.lanes }
+// The first bytes of the state.
+fn front_block(state: State) -> [u8; RATE]
+    ensures { result ≡ take 168 (state_bytes (lanes_of state)) }
 {
-    let [a, b, c, d, e] = row.lanes;
-    store(block, place, a);
-    store(block, place + 8, b);
-    store(block, place + 16, c);
-    store(block, place + 24, d);
-    store(block, place + 32, e);
-}
-
-// Writes the first bytes of the state.
-fn store_block(block: &mut [u8], state: State)
-    requires { length block.old ≡ 168 }
-    ensures { block.new ≡ take 168 (state_bytes (lanes_of state)) }
-{
-    store_row(block, 0, state.y0);
-    store_row(block, 40, state.y1);
-    store_row(block, 80, state.y2);
-    store_row(block, 120, state.y3);
-    store(block, 160, state.y4.lanes[0]);
+    let [a, b, c, d, e] = state.rows();
+    let rows = [
+        row_bytes(a),
+        row_bytes(b),
+        row_bytes(c),
+        row_bytes(d),
+        row_bytes(e),
+    ];
+    let bytes = rows.as_flattened().as_flattened();
+    let mut block = [0; RATE];
+    block.copy_from_slice(&bytes[..RATE]);
+    block
 }
 
 // The last block: the held bytes and the padding.
-fn padded(held: Held<RATE>) -> [u8; RATE]
-    ensures { result ≡ take held.count held.buffer ++ padding held.count }
+fn padded(held: &[u8]) -> [u8; RATE]
+    requires { length held.now < 168 }
+    ensures { result ≡ held.now ++ padding (length held.now) }
 {
-    let count = held.count;
-    let mut block = held.buffer;
-    block[count..].fill(0);
-    block[count] = 0x1F;
+    let mut block = [0; RATE];
+    block[..held.len()].copy_from_slice(held);
+    block[held.len()] = 0x1F;
     block[RATE - 1] ^= 0x80;
     block
 }
 
-// Between two blocks.
-impl Absorb<RATE> for State {
+// The state between two blocks. It is not `Copy`, so that nothing can be fed after the turn.
+pub struct Sponge(State);
+
+impl Absorb<RATE> for Sponge {
     ghost Answer = { Row };
 
-    ghost answer = { λ s m. squeezed (sponge (lanes_of s) m) };
+    ghost answer = { λ s m. squeezed (sponge (lanes_of s.0) m) };
 
-    fn absorb(&mut self, block: &[u8]) {
-        *self = permute(mix(*self, block));
+    ghost size = { Prim.search rules };
+
+    fn absorb(&mut self, block: &[u8; RATE]) {
+        self.0 = permute(mix(self.0, block));
     }
 }
 
@@ -127,63 +115,45 @@ impl Absorb<RATE> for State {
 impl Squeeze<RATE> for State {
     ghost row = { λ s. squeezed (permuted (lanes_of s)) };
 
-    fn squeeze(&mut self, block: &mut [u8]) {
+    ghost some = { Prim.search rules };
+
+    fn squeeze(&mut self) -> [u8; RATE] {
         *self = permute(*self);
-        store_block(block, *self);
+        front_block(*self)
     }
 }
 
 // SHAKE128 of FIPS 202.
 pub struct Shake128;
 
-pub struct Shake128Feeder {
-    state: State,
-    held: Held<RATE>,
-}
-
-#[derive(Drop)]
-pub struct Shake128Reader {
-    output: BlockOutput<State, RATE>,
-}
-
 impl Hash for Shake128 {
-    type Feeder = Shake128Feeder;
+    type Feeder = BlockInput<Sponge, Held<RATE>>;
 
     ghost rule = { shake128 };
 
     ghost bytes = { shake128_below };
 
-    fn start() -> Shake128Feeder {
-        Shake128Feeder {
-            state: State::blank(),
-            held: Held::new(),
-        }
+    fn start() -> Self::Feeder {
+        BlockInput::new(Sponge(State::blank()))
     }
 }
 
-impl Feeder for Shake128Feeder {
-    type Reader = Shake128Reader;
+impl Feeder for BlockInput<Sponge, Held<RATE>> {
+    ghost use Rattle.hash.specs.Layers.{input_answer};
 
-    ghost rule = { λ f. holding f.held.buffer f.held.count (λ m. squeezed (sponge (lanes_of f.state) m)) };
+    type Reader = BlockOutput<State, RATE>;
+
+    ghost rule = { λ f. input_answer (λ s m. squeezed (sponge (lanes_of s.0) m)) f };
 
     fn feed(&mut self, bytes: &[u8]) {
-        feed(&mut self.state, &mut self.held, bytes);
+        self.put(bytes);
     }
 
-    fn turn(self) -> Shake128Reader {
-        let Shake128Feeder { state, held } = self;
-        let state = mix(state, &padded(held));
-        Shake128Reader {
-            output: BlockOutput::new(state),
-        }
-    }
-}
-
-impl Reader for Shake128Reader {
-    ghost row = { λ r. unread r.output.buffer r.output.place 168 (squeezed (permuted (lanes_of r.output.below))) };
-
-    fn read(mut self, out: &mut [u8]) -> Shake128Reader {
-        self.output.read(out);
-        self
+    fn turn(self) -> Self::Reader {
+        let BlockInput {
+            below: Sponge(state),
+            held,
+        } = self;
+        BlockOutput::new(mix(state, &padded(held.bytes())))
     }
 }

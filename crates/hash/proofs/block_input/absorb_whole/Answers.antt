@@ -1,10 +1,24 @@
-use Rattle.std.proofs.Common.{ap, ◌∙◌}
+use Rattle.std.proofs.Common.{◌≡◌, ◌+◌, ◌*◌, ◌/◌, length, get_or, take, drop, sym, ap, ◌∙◌, arith}
+use Rattle.std.specs.Simd.{first_chunks}
+use Rattle.std.proofs.lemmas.List.{drop-drop}
 use Rattle.hash.specs.Rows.{after}
+use Rattle.hash.proofs.Chunks.{chunk_at}
 use Rattle.hash.proofs.Feeding.{after_halves}
 use Rattle.hash.proofs.block_input.absorb_whole.Goals as goal
 
-pub loop-rest-preserved : goal.loop-rest-preserved
-loop-rest-preserved g c =
-    ap (after c.split_at.result.1.now) c.absorb.ensures
-    ∙ after_halves g.row.SIZE c.loop-rest.rest.now c.split_at.result.0.now c.split_at.result.1.now (g.A.Absorb.answer c.loop-rest.below) c.split_at.ensures.front c.split_at.ensures.back
-    ∙ c.loop-rest.invariant
+pub as_chunks-requires : goal.as_chunks-requires
+as_chunks-requires g c = let size = g.met.A.Absorb.size in (omega (arith, size.1), size.0)
+
+pub loop-block-preserved : goal.loop-block-preserved
+loop-block-preserved g c =
+    let n = g.row.SIZE in
+    let i = c.loop-block.block-index in
+    let bytes = c.args.bytes.now in
+    let block = c.block-item.result in
+    let count = length bytes / n in
+    let cut : c.as_chunks.result.0.now ≡ first_chunks n count bytes = c.as_chunks.ensures.front in
+    let front : block ≡ take n (drop (i * n) bytes) = c.block-item.is ∙ ap (λ blocks. get_or blocks i block) cut ∙ chunk_at n count i bytes block (omega (arith, c.as_chunks.ensures.front_len)) in
+    let back : drop ((i + 1) * n) bytes ≡ drop n (drop (i * n) bytes) = sym (drop-drop n (i * n) bytes ∙ ap (λ m. drop m bytes) (omega arith)) in
+    ap (after (drop ((i + 1) * n) bytes)) c.absorb.ensures
+    ∙ after_halves n (drop (i * n) bytes) block (drop ((i + 1) * n) bytes) (g.A.Absorb.answer c.loop-block.below) front back
+    ∙ c.loop-block.invariant

@@ -1,25 +1,56 @@
-use Rattle.std.proofs.Common.{◌≡◌, ℕ, List, [], ◌∷◌, get_or, drop, ap, ◌∙◌, rules}
+use Rattle.std.proofs.Common.{◌≡◌, ℕ, ◌+◌, ◌*◌, ◌/◌, ◌<◌, List, [], ◌∷◌, map, length, get_or, take, drop, refl, ap, ◌∙◌, arith, rules}
 use lib.Bits.{bit_xor}
-use Rattle.std.proofs.lemmas.List.{drop_all}
+use lib.Lanes.{number_l}
+use Rattle.std.specs.Simd.{first_chunks}
+use Rattle.std.proofs.lemmas.List.{drop_all, get_or-drop}
 use Rattle.hash.specs.Keccak.{five}
+use Rattle.hash.specs.Shake128.{word}
+use Rattle.hash.proofs.Chunks.{chunk_at, chunk_elements}
 use Rattle.hash.proofs.shake128.mix.Goals as goal
 
 -- the sum of two rows
 unfoldable sum : List ℕ → List ℕ → List ℕ
 sum row = λ words. five (λ x. bit_xor (get_or row x 0) (get_or words x 0))
 
+-- the words of a block and its rows, as the code cuts them
+module _ (block : List ℕ) (words : List (List ℕ)) (w : words ≡ first_chunks 8 21 block) where
+  word_at : (i j : ℕ) → i ≡ j → i < 21 → number_l 256 (get_or words i []) ≡ word block j
+  word_at i j e h =
+      let place : i * 8 ≡ 8 * j = omega arith in
+      ap (number_l 256) (ap (λ l. get_or l i []) w ∙ chunk_at 8 21 i block [] h ∙ ap (λ n. take 8 (drop n block)) place)
+
+  row_at : (rows : List (List (List ℕ))) (y : ℕ) → length words ≡ 21 → rows ≡ first_chunks 5 4 words → y < 4 → map (number_l 256) (get_or rows y []) ≡ five (λ x. word block (5 * y + x))
+  row_at rows y long r h =
+      let at : (x : ℕ) → x < 5 → number_l 256 (get_or words (y * 5 + x) []) ≡ word block (5 * y + x) = λ x l. word_at (y * 5 + x) (5 * y + x) (omega arith) (omega arith) in
+      ap (map (number_l 256)) (ap (λ l. get_or l y []) r ∙ chunk_at 5 4 y words [] h ∙ chunk_elements 5 (y * 5) words [] (omega arith))
+      ∙ cc (at 0 (omega arith), at 1 (omega arith), at 2 (omega arith), at 3 (omega arith), at 4 (omega arith))
+
+  last_word : (rest : List (List ℕ)) → rest ≡ drop 20 words → number_l 256 (get_or rest 0 []) ≡ word block 20
+  last_word rest r = ap (number_l 256) (ap (λ l. get_or l 0 []) r ∙ get_or-drop 20 words 0 []) ∙ word_at 20 20 refl (omega arith)
+
 pub returns : goal.returns
 unfolding sum
 returns c =
     let block = c.args.block.now in
     let state = c.args.state in
-    let y0 = c.xor.ensures ∙ ap (sum state.y0.lanes) c.load_row.ensures in
-    let y1 = c.xor-2.ensures ∙ ap (sum state.y1.lanes) c.load_row-2.ensures in
-    let y2 = c.xor-3.ensures ∙ ap (sum state.y2.lanes) c.load_row-3.ensures in
-    let y3 = c.xor-4.ensures ∙ ap (sum state.y3.lanes) c.load_row-4.ensures in
-    let y4 = c.xor-5.ensures ∙ ap (λ w. sum state.y4.lanes (w ∷ 0 ∷ 0 ∷ 0 ∷ 0 ∷ [])) c.load.ensures in
-    let w21 : drop 168 block ≡ [] = drop_all 168 block (search rules) in
-    let w22 : drop 176 block ≡ [] = drop_all 176 block (search rules) in
-    let w23 : drop 184 block ≡ [] = drop_all 184 block (search rules) in
-    let w24 : drop 192 block ≡ [] = drop_all 192 block (search rules) in
+    let ws = c.as_chunks.result.0.now in
+    let rows = c.as_chunks-2.result.0.now in
+    let cut = c.as_chunks.ensures in
+    let cut-2 = c.as_chunks-2.ensures in
+    let size : length block ≡ 168 = search rules in
+    let n : length block / 8 ≡ 21 = omega arith in
+    let count : length ws ≡ 21 = omega (arith, cut.front_len) in
+    let m : length ws / 5 ≡ 4 = omega (arith, count) in
+    let words : ws ≡ first_chunks 8 21 block = cut.front ∙ ap (λ k. first_chunks 8 k block) n in
+    let row : (y : ℕ) → y < 4 → map (number_l 256) (get_or rows y []) ≡ five (λ x. word block (5 * y + x)) = λ y h. row_at block ws words rows y count (cut-2.front ∙ ap (λ k. first_chunks 5 k ws) m) h in
+    let y0 = c.xor.ensures ∙ ap (sum state.y0.lanes) (c.load_row.ensures ∙ row 0 (omega arith)) in
+    let y1 = c.xor-2.ensures ∙ ap (sum state.y1.lanes) (c.load_row-2.ensures ∙ row 1 (omega arith)) in
+    let y2 = c.xor-3.ensures ∙ ap (sum state.y2.lanes) (c.load_row-3.ensures ∙ row 2 (omega arith)) in
+    let y3 = c.xor-4.ensures ∙ ap (sum state.y3.lanes) (c.load_row-4.ensures ∙ row 3 (omega arith)) in
+    let last = c.load.ensures ∙ last_word block ws words c.as_chunks-2.result.1.now (cut-2.back ∙ ap (λ k. drop (k * 5) ws) m) in
+    let y4 = c.xor-5.ensures ∙ ap (λ w. sum state.y4.lanes (w ∷ 0 ∷ 0 ∷ 0 ∷ 0 ∷ [])) last in
+    let w21 : drop 168 block ≡ [] = drop_all 168 block (omega arith) in
+    let w22 : drop 176 block ≡ [] = drop_all 176 block (omega arith) in
+    let w23 : drop 184 block ≡ [] = drop_all 184 block (omega arith) in
+    let w24 : drop 192 block ≡ [] = drop_all 192 block (omega arith) in
     rw (w21, w22, w23, w24) (cc)

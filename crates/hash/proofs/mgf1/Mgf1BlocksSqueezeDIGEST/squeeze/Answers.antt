@@ -5,6 +5,7 @@ use Rattle.hash.specs.Mgf1.{mask_from}
 use Rattle.hash.specs.Rows.{Gives}
 use Rattle.hash.specs.Sha256.{big_endian}
 use Rattle.hash.proofs.Reading.{blocks_give}
+use Rattle.hash.proofs.ShaLaws.{word_bytes}
 use Rattle.hash.proofs.mgf1.Mgf1BlocksSqueezeDIGEST.squeeze.Goals as goal
 
 -- the block of one counter, and then the blocks of those that follow
@@ -24,5 +25,6 @@ pub returns : goal.returns
 returns c =
     let self = c.args.self.now in
     let below : self.counter < 2 ^ 32 = search rules in
-    let long : length c.copy_from_slice.new.self ≡ 32 = search rules in
-    counter-gives (pending self.seed) self.counter c.copy_from_slice.new.self below long (c.copy_from_slice.ensures.after ∙ c.finish.ensures ∙ ap (λ d. d []) c.update.ensures ∙ ap (pending self.seed) (append-nil _ ∙ c.counter_bytes.ensures))
+    let long : length c.finish.result ≡ 32 = search rules in
+    let counter : c.to_be_bytes.result ≡ big_endian 4 self.counter = (let bytes = word_bytes self.counter in search rules) in
+    counter-gives (pending self.seed) self.counter c.finish.result below long (c.finish.ensures ∙ ap (λ d. d []) c.update.ensures ∙ ap (pending self.seed) (append-nil _ ∙ counter))

@@ -3,4 +3,4 @@ use Rattle.hash.proofs.sha256.Sha256.update.Goals as goal
 
 pub returns : goal.returns
 unfolding pending
-returns c = c.feed.ensures
+returns c = c.put.ensures

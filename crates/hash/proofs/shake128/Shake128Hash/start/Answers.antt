@@ -1,12 +1,8 @@
 use Rattle.std.proofs.Common.{ap, ◌∙◌}
 use mathlib.Core.Path.{fun_ext}
-use Rattle.hash.specs.Lanes.{lanes_of}
 use Rattle.hash.specs.Shake128.{shake128, sponge, squeezed}
-use Rattle.hash.proofs.Feeding.{holding_none}
 use Rattle.hash.proofs.shake128.Shake128Hash.start.Goals as goal
 
 pub returns : goal.returns
 unfolding shake128
-returns c =
-    holding_none c.new.result.buffer c.new.result.count (λ m. squeezed (sponge (lanes_of c.blank.result) m)) c.new.ensures
-    ∙ fun_ext (λ m. ap (λ A. squeezed (sponge A m)) c.blank.ensures)
+returns c = c.new.ensures ∙ fun_ext (λ m. ap (λ A. squeezed (sponge A m)) c.blank.ensures)
