@@ -107,7 +107,8 @@ impl Absorb<RATE> for Sponge {
     ghost size = { Prim.search rules };
 
     fn absorb(&mut self, block: &[u8; RATE]) {
-        self.0 = permute(mix(self.0, block));
+        let Sponge(state) = self;
+        *state = permute(mix(*state, block));
     }
 }
 
