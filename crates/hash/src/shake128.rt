@@ -1,7 +1,7 @@
 // SHAKE128: a sponge over Keccak-f[1600] with blocks of 168 bytes.
 ghost use Rattle.std.specs.Prelude.{◌≡◌, ◌<◌, ◌++◌, length, map, take};
 ghost use Rattle.std.specs.List.{flat_map};
-ghost use Rattle.std.specs.Simd.Lanes.{number_l};
+ghost use Rattle.std.specs.Simd.Lanes.{digits_l, number_l};
 ghost use Rattle.std.proofs.Common.{rules};
 ghost use Rattle.hash.specs.Keccak.{permuted};
 ghost use Rattle.hash.specs.Lanes.{lanes_of};
@@ -28,9 +28,8 @@ fn load(bytes: [u8; 8]) -> u64
 fn load_row(words: [[u8; 8]; 5]) -> Plane
     ensures { result.lanes ≡ map (number_l 256) words }
 {
-    let [a, b, c, d, e] = words;
     Plane {
-        lanes: [load(a), load(b), load(c), load(d), load(e)],
+        lanes: words.map(load),
     }
 }
 
@@ -52,18 +51,18 @@ fn mix(state: State, block: &[u8; RATE]) -> State
     }
 }
 
-// The bytes of a row, the low byte of each lane first.
+// The bytes of a word, the low byte first.
+fn store(word: u64) -> [u8; 8]
+    ensures { result ≡ digits_l 256 8 word }
+{
+    word.to_le_bytes()
+}
+
+// The bytes of a row, lane by lane.
 fn row_bytes(row: [u64; 5]) -> [[u8; 8]; 5]
     ensures { flat_map (λ bytes. bytes) result ≡ lane_bytes row }
 {
-    let [a, b, c, d, e] = row;
-    [
-        a.to_le_bytes(),
-        b.to_le_bytes(),
-        c.to_le_bytes(),
-        d.to_le_bytes(),
-        e.to_le_bytes(),
-    ]
+    row.map(store)
 }
 
 // The first bytes of the state.
