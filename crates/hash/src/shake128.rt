@@ -1,6 +1,5 @@
 // SHAKE128: a sponge over Keccak-f[1600] with blocks of 168 bytes.
 ghost use Rattle.std.specs.Prelude.{◌≡◌, ◌<◌, ◌++◌, length, map, take};
-ghost use Rattle.std.specs.List.{flat_map};
 ghost use Rattle.std.specs.Simd.Lanes.{digits_l, number_l};
 ghost use Rattle.std.proofs.Common.{rules};
 ghost use Rattle.hash.specs.Keccak.{permuted};
@@ -60,7 +59,7 @@ fn store(word: u64) -> [u8; 8]
 
 // The bytes of a row, lane by lane.
 fn row_bytes(row: [u64; 5]) -> [[u8; 8]; 5]
-    ensures { flat_map (λ bytes. bytes) result ≡ lane_bytes row }
+    ensures { result ≡ map (digits_l 256 8) row }
 {
     row.map(store)
 }
@@ -69,14 +68,7 @@ fn row_bytes(row: [u64; 5]) -> [[u8; 8]; 5]
 fn front_block(state: State) -> [u8; RATE]
     ensures { result ≡ take 168 (state_bytes (lanes_of state)) }
 {
-    let [a, b, c, d, e] = state.rows();
-    let rows = [
-        row_bytes(a),
-        row_bytes(b),
-        row_bytes(c),
-        row_bytes(d),
-        row_bytes(e),
-    ];
+    let rows = state.rows().map(row_bytes);
     let bytes = rows.as_flattened().as_flattened();
     let mut block = [0; RATE];
     block.copy_from_slice(&bytes[..RATE]);

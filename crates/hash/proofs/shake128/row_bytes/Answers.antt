@@ -1,12 +1,9 @@
-use Rattle.std.proofs.Common.{[], rules, ap, ◌∙◌}
+use Rattle.std.proofs.Common.{[], rules}
 use lib.Lanes.{digits_l}
-use Rattle.std.specs.List.{flat_map}
-use Rattle.std.proofs.lemmas.List.Folds.{flat_map-map}
 use Rattle.hash.proofs.Words.{mapped}
 use Rattle.hash.proofs.shake128.row_bytes.Goals as goal
 
 pub returns : goal.returns
 returns c =
     let made = c.map.ensures.items in
-    let bytes = mapped (digits_l 256 8) 5 c.args.row c.map.result 0 [] (search rules) made.long (λ k l. (made.at k 0 [] l).2.met) in
-    ap (flat_map (λ b. b)) bytes ∙ flat_map-map (λ b. b) (digits_l 256 8) c.args.row
+    mapped (digits_l 256 8) 5 c.args.row c.map.result 0 [] (search rules) made.long (λ k l. (made.at k 0 [] l).2.met)
