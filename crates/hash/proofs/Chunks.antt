@@ -11,8 +11,3 @@ chunk_at n (suc k) zero xs d h = let none : 0 * n ≡ 0 = omega arith in rw none
 chunk_at n (suc k) (suc i) xs d h =
     let next : n + i * n ≡ suc i * n = omega arith in
     chunk_at n k i (drop n xs) d (omega arith) ∙ ap (take n) (drop-drop (i * n) n xs ∙ ap (λ m. drop m xs) next)
-
--- a part by its elements
-pub chunk_elements : {X : Type 0} (n k : ℕ) (xs : List X) (d : X) → k + n ≤ length xs → take n (drop k xs) ≡ map (λ i. get_or xs (k + i) d) (range_with_len 0 n)
-chunk_elements n k xs d h =
-    fill_by_all (λ i. get_or xs (k + i) d) (take n (drop k xs)) n d (simp (length-take, length-drop) (omega arith)) (λ i below. get_or-take n (drop k xs) i d below ∙ get_or-drop k xs i d)

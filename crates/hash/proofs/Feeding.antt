@@ -1,8 +1,8 @@
 -- Laws of feeding.
-use Rattle.std.specs.Prelude.{◌≡◌, ℕ, suc, List, ◌++◌, length, take, drop}
-use Rattle.std.proofs.Common.{ap, ◌∙◌, sym, append_assoc, take-append-drop}
+use Rattle.std.specs.Prelude.{◌≡◌, ℕ, suc, ◌-◌, ◌<◌, List, ◌∷◌, ◌++◌, length, take, drop, replicate, slice_set, refl}
+use Rattle.std.proofs.Common.{ap, arith, ◌∙◌, sym, append_assoc, take-append-drop}
 use Rattle.std.proofs.Math.Path.{fun_ext}
-use Rattle.std.proofs.lemmas.List.{drop_at, take_at}
+use Rattle.std.proofs.lemmas.List.{drop-replicate, drop_at, set_at, take_at}
 use Rattle.hash.specs.Blocks.{absorbed}
 use Rattle.hash.specs.Rows.{after, holding}
 
@@ -25,3 +25,9 @@ holding_none buffer count rule e = ap (λ n. holding buffer n rule) e
 -- bytes that begin with a whole block
 pub absorbed_block : {S : Type 0} (f : S → List ℕ → S) (size n : ℕ) (s : S) (block bytes : List ℕ) → length block ≡ size → absorbed f size (suc n) s (block ++ bytes) ≡ absorbed f size n (f s block) bytes
 absorbed_block f size n s block bytes h = rw (take_at block bytes size h, drop_at block bytes size h)
+
+-- held bytes put into a block of zeros, and a mark behind them
+pub marked_block : (n mark k : ℕ) (held front : List ℕ) → front ≡ held → k ≡ length held → length held < n → slice_set (front ++ drop k (replicate n 0)) (length held) mark ≡ held ++ mark ∷ replicate (n - 1 - length held) 0
+marked_block n mark k held front e f h =
+    let left : n - length held ≡ suc (n - 1 - length held) = omega arith in
+    rw (e, f, drop-replicate {X = ℕ} (length held) n 0, left) (set_at held 0 (replicate (n - 1 - length held) 0) mark (length held) refl)

@@ -85,12 +85,6 @@ module _ (x h : List ℕ) (n t : ℕ) (whole : n % 64 ≡ 0) (count : (n + lengt
       ap chain_bytes (sym (ap (hashed x) p ∙ hashed_block x b q m ∙ hashed_one (compressed x b) q k))
 
 -- what the code leaves in a block
-pub marked_is : (h z : List ℕ) (k : ℕ) → z ≡ h → k ≡ length h → length h < 64
-    → slice_set (z ++ drop k (replicate 64 0)) (length h) 0x80 ≡ h ++ 0x80 ∷ replicate (63 - length h) 0
-marked_is h z k e f l =
-    let n : 64 - length h ≡ suc (63 - length h) = omega arith in
-    rw (e, f, drop-replicate {X = ℕ} (length h) 64 0, n, set_at h 0 (replicate (63 - length h) 0) 0x80 (length h) refl)
-
 pub counted_is : (b z : List ℕ) (t : ℕ) → length b ≡ 64 → z ≡ big_endian 8 (8 * (t % 2 ^ 61))
     → put_mid 56 8 b z ≡ take 56 b ++ big_endian 8 (8 * (t % 2 ^ 61))
 counted_is b z t h e =
@@ -106,27 +100,3 @@ pub count_bytes : (t x : ℕ) → x ≡ (t * 8) % 2 ^ 64
     ≡ big_endian 8 (8 * (t % 2 ^ 61))
 unfolding big_endian
 count_bytes t x e = let f : 8 * (t % 2 ^ 61) ≡ x = omega arith in rw (f, div-one x)
-
-length-chain_bytes : (x : List ℕ) → length (chain_bytes x) ≡ 4 * length x
-unfolding big_endian
-length-chain_bytes [] = refl
-length-chain_bytes (w ∷ ws) = omega (arith, length-chain_bytes ws)
-
-length-absorbed : (k : ℕ) (x p : List ℕ) → length x ≡ 8 → length (absorbed compressed 64 k x p) ≡ 8
-unfolding compressed
-length-absorbed zero x p h = h
-length-absorbed (suc k) x p h = length-absorbed k (compressed x (take 64 p)) (drop 64 p) refl
-
-pub length-digest : (x : List ℕ) (n : ℕ) (m : List ℕ) → length x ≡ 8 → length (digest_from x n m) ≡ 32
-unfolding digest_from
-length-digest x n m h =
-    let p = m ++ padding (n + length m) in
-    omega (arith, length-chain_bytes (hashed x p), length-absorbed (length p / 64) x p h)
-
-pub length-initial : length initial ≡ 8
-unfolding initial
-length-initial = refl
-
-pub length-sha256 : (m : List ℕ) → length (sha256 m) ≡ 32
-unfolding sha256
-length-sha256 m = length-digest initial 0 m length-initial

@@ -45,9 +45,3 @@ padded_is m (suc n) h =
     let zeros : replicate (suc n) 0 ≡ replicate n 0 ++ 0 ∷ [] = sym (replicate_more {X = ℕ} n 0 ∙ ap (λ k. replicate k 0) (add-one n)) in
     let block = ap (λ l. m ++ 0x1F ∷ l) zeros ∙ sym (append_assoc m (0x1F ∷ replicate n 0) (0 ∷ [])) in
     rw (block, get_or_at front 0 [] 0 167 e, set_at front 0 [] 0x80 167 e) (append_assoc m (0x1F ∷ replicate n 0) (0x80 ∷ []))
-
--- held bytes put into a block of zeros, and a mark behind them
-pub marked_block : (n mark k : ℕ) (held front : List ℕ) → front ≡ held → k ≡ length held → length held < n → slice_set (front ++ drop k (replicate n 0)) (length held) mark ≡ held ++ mark ∷ replicate (n - 1 - length held) 0
-marked_block n mark k held front e f h =
-    let left : n - length held ≡ suc (n - 1 - length held) = omega arith in
-    rw (e, f, drop-replicate {X = ℕ} (length held) n 0, left) (set_at held 0 (replicate (n - 1 - length held) 0) mark (length held) refl)

@@ -2,7 +2,7 @@
 use Rattle.std.proofs.Common.{◌≡◌, ℕ, zero, suc, ◌+◌, ◌-◌, ◌≤◌, List, [], ◌∷◌, ◌++◌, map, length, take, drop, replicate, sym, refl, ap, ◌∙◌, suc-add, zero-add, arith, take-add}
 use lib.Lanes.{pick_l, zip2}
 use Rattle.std.proofs.lemmas.List.{append_assoc, drop_at, drop-drop, length_push, length-take-le, take_all}
-use Rattle.hash.proofs.Words.{written_out}
+use Rattle.std.proofs.lemmas.Simd.{pick_l_whole}
 use Rattle.hash.proofs.RoundLaws.{rounds-append, rounds_longer}
 use Rattle.hash.specs.Sha256.{◌⊞◌, σ₀, σ₁, Working, back, constants, next, rounds, schedule}
 
@@ -47,7 +47,7 @@ module _ (x₀ x₁ x₂ x₃ x₄ x₅ x₆ x₇ x₈ x₉ x₁₀ x₁₁ x₁
 pub following_is : (a b c d : List ℕ) → length a ≡ 4 → length b ≡ 4 → length c ≡ 4 → length d ≡ 4
     → (a ++ (b ++ (c ++ d))) ++ following a b c d ≡ schedule 4 (a ++ (b ++ (c ++ d)))
 following_is a b c d k l m n =
-    rw (written_out 4 a k, written_out 4 b l, written_out 4 c m, written_out 4 d n) (following_words _ _ _ _ _ _ _ _ _ _ _ _ _ _ _ _)
+    rw (← pick_l_whole 0 a 4 k, ← pick_l_whole 0 b 4 l, ← pick_l_whole 0 c 4 m, ← pick_l_whole 0 d 4 n) (following_words _ _ _ _ _ _ _ _ _ _ _ _ _ _ _ _)
 
 -- the window after the next four words are pushed
 pub pushed : (a b c d e : List ℕ) → length a ≡ 4 → b ++ (c ++ (d ++ e)) ≡ drop 4 ((a ++ (b ++ (c ++ d))) ++ e)
@@ -67,8 +67,7 @@ schedule-add (suc n) m w = rw (suc-add n m) (schedule-add n m (w ++ next w ∷ [
 
 -- a word more in front changes nothing of what follows
 back-cons : (n x : ℕ) (w : List ℕ) → 1 ≤ n → n ≤ length w → back n (x ∷ w) ≡ back n w
-back-cons n x w p h =
-    let e : suc (length w) - n ≡ suc (length w - n) = omega arith in rw e
+back-cons n x w p h = grind arith
 
 next-cons : (x : ℕ) (w : List ℕ) → 16 ≤ length w → next (x ∷ w) ≡ next w
 next-cons x w h =

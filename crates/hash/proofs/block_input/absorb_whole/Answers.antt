@@ -6,9 +6,6 @@ use Rattle.hash.proofs.Chunks.{chunk_at}
 use Rattle.hash.proofs.Feeding.{after_halves}
 use Rattle.hash.proofs.block_input.absorb_whole.Goals as goal
 
-pub as_chunks-requires : goal.as_chunks-requires
-as_chunks-requires g c = let size = g.met.A.Absorb.size in (omega (arith, size.1), size.0)
-
 pub loop-block-preserved : goal.loop-block-preserved
 loop-block-preserved g c =
     let n = g.row.SIZE in

@@ -1,11 +1,12 @@
-use Rattle.std.proofs.Common.{◌≡◌, ℕ, ◌+◌, ◌*◌, ◌/◌, ◌<◌, List, [], ◌∷◌, map, length, get_or, take, drop, refl, ap, ◌∙◌, arith, rules}
+use Rattle.std.proofs.Common.{◌≡◌, ℕ, ◌+◌, ◌*◌, ◌/◌, ◌<◌, List, [], ◌∷◌, map, length, get_or, take, drop, refl, sym, ap, ◌∙◌, arith, rules}
 use lib.Bits.{bit_xor}
 use lib.Lanes.{number_l}
 use Rattle.std.specs.Simd.{first_chunks}
 use Rattle.std.proofs.lemmas.List.{drop_all, get_or-drop}
+use Rattle.std.proofs.lemmas.Simd.{pick_l-range_with_len}
 use Rattle.hash.specs.Keccak.{five}
 use Rattle.hash.specs.Shake128.{word}
-use Rattle.hash.proofs.Chunks.{chunk_at, chunk_elements}
+use Rattle.hash.proofs.Chunks.{chunk_at}
 use Rattle.hash.proofs.shake128.mix.Goals as goal
 
 -- the sum of two rows
@@ -21,9 +22,8 @@ module _ (block : List ℕ) (words : List (List ℕ)) (w : words ≡ first_chunk
 
   row_at : (rows : List (List (List ℕ))) (y : ℕ) → length words ≡ 21 → rows ≡ first_chunks 5 4 words → y < 4 → map (number_l 256) (get_or rows y []) ≡ five (λ x. word block (5 * y + x))
   row_at rows y long r h =
-      let at : (x : ℕ) → x < 5 → number_l 256 (get_or words (y * 5 + x) []) ≡ word block (5 * y + x) = λ x l. word_at (y * 5 + x) (5 * y + x) (omega arith) (omega arith) in
-      ap (map (number_l 256)) (ap (λ l. get_or l y []) r ∙ chunk_at 5 4 y words [] h ∙ chunk_elements 5 (y * 5) words [] (omega arith))
-      ∙ cc (at 0 (omega arith), at 1 (omega arith), at 2 (omega arith), at 3 (omega arith), at 4 (omega arith))
+      ap (map (number_l 256)) (ap (λ l. get_or l y []) r ∙ chunk_at 5 4 y words [] h ∙ sym (pick_l-range_with_len [] words (y * 5) 5 (omega arith)))
+      ∙ cc (word_at (y * 5) (5 * y + 0) (omega arith) (omega arith), word_at (y * 5 + 1) (5 * y + 1) (omega arith) (omega arith), word_at (y * 5 + 1 + 1) (5 * y + 2) (omega arith) (omega arith), word_at (y * 5 + 1 + 1 + 1) (5 * y + 3) (omega arith) (omega arith), word_at (y * 5 + 1 + 1 + 1 + 1) (5 * y + 4) (omega arith) (omega arith))
 
   last_word : (rest : List (List ℕ)) → rest ≡ drop 20 words → number_l 256 (get_or rest 0 []) ≡ word block 20
   last_word rest r = ap (number_l 256) (ap (λ l. get_or l 0 []) r ∙ get_or-drop 20 words 0 []) ∙ word_at 20 20 refl (omega arith)
