@@ -1,5 +1,5 @@
 -- Every byte of a row is below 256. An implementation of a hash cites these proofs, so they stand beside the definitions.
-use Rattle.std.specs.Prelude.{ℕ, zero, suc, ◌/◌, ◌%◌, ◌^◌, ◌<◌, List, [], ◌∷◌, ◌++◌, slice_index}
+use Rattle.std.specs.Prelude.{ℕ, zero, suc, ◌/◌, ◌%◌, ◌<◌, List, [], ◌∷◌, slice_index}
 use Rattle.std.specs.List.{flat_map}
 use Rattle.std.specs.Simd.Lanes.{digits_l}
 use Rattle.std.proofs.Common.{arith, rules}
@@ -8,12 +8,9 @@ use Rattle.std.proofs.lemmas.Nat.{mod_below}
 use Rattle.hash.specs.Sha256.{big_endian, digest_from}
 use Rattle.hash.specs.Shake128.{lane_bytes, permuted_times, shake128, sponge, squeezed}
 
-below-append : (xs ys : List ℕ) → ((k : ℕ) → slice_index xs k < 256) → ((k : ℕ) → slice_index ys k < 256) → (k : ℕ) → slice_index (xs ++ ys) k < 256
-below-append xs ys p q k = grind (arith, places, p, q)
-
 below-flat_map : {X : Type 0} (f : X → List ℕ) (xs : List X) → ((x : X) (k : ℕ) → slice_index (f x) k < 256) → (k : ℕ) → slice_index (flat_map f xs) k < 256
 below-flat_map f [] p k = omega arith
-below-flat_map f (x ∷ xs) p k = below-append (f x) (flat_map f xs) (p x) (below-flat_map f xs p) k
+below-flat_map f (x ∷ xs) p k = grind (arith, places, p x, below-flat_map f xs p)
 
 digits_below : (n w k : ℕ) → slice_index (digits_l 256 n w) k < 256
 digits_below zero w k = omega arith

@@ -49,8 +49,4 @@ returns c =
     let y3 = c.xor-4.ensures ∙ ap (sum state.y3.lanes) (c.load_row-4.ensures ∙ row 3 (omega arith)) in
     let last = c.load.ensures ∙ last_word block ws words c.as_chunks-2.result.1.now (cut-2.back ∙ ap (λ k. drop (k * 5) ws) m) in
     let y4 = c.xor-5.ensures ∙ ap (λ w. sum state.y4.lanes (w ∷ 0 ∷ 0 ∷ 0 ∷ 0 ∷ [])) last in
-    let w21 : drop 168 block ≡ [] = drop_all 168 block (omega arith) in
-    let w22 : drop 176 block ≡ [] = drop_all 176 block (omega arith) in
-    let w23 : drop 184 block ≡ [] = drop_all 184 block (omega arith) in
-    let w24 : drop 192 block ≡ [] = drop_all 192 block (omega arith) in
-    rw (w21, w22, w23, w24) (cc)
+    rw (drop_all 168 block (omega arith), drop_all 176 block (omega arith), drop_all 184 block (omega arith), drop_all 192 block (omega arith)) (cc)
