@@ -4,10 +4,6 @@ use lib.Lanes.{zip2}
 use Rattle.std.proofs.lemmas.Simd.{pick_l_whole}
 use Rattle.hash.specs.Sha256.{◌⊞◌, T₁, Working, round, rounds}
 
--- the sum T₁ in the order of the code, where k is the constant and the word in one
-pub round_order : (h k c s : ℕ) → h ⊞ k ⊞ c ⊞ s ≡ h ⊞ s ⊞ c ⊞ k ⊞ 0
-round_order h k c s = omega arith
-
 round_sum : (k w : ℕ) (v : Working) → round (w ⊞ k) 0 v ≡ round k w v
 unfolding round
 round_sum k w v =

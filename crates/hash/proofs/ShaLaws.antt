@@ -8,14 +8,11 @@ use Rattle.std.proofs.Math.Seq.{take-append-add}
 use Rattle.hash.proofs.Feeding.{absorbed_block}
 use Rattle.hash.specs.Sha256.{big_endian, chain_bytes, compressed, digest_from, hashed, padding}
 
-same_padding : (n k : ℕ) → n % 2 ^ 61 ≡ k % 2 ^ 61 → padding n ≡ padding k
-same_padding n k h = grind arith
-
 -- a digest depends on the count of the bytes before only modulo 2 ^ 61
 pub digest-mod : (x : List ℕ) (n k : ℕ) (m : List ℕ) → n % 2 ^ 61 ≡ k % 2 ^ 61 → digest_from x n m ≡ digest_from x k m
 unfolding digest_from
 digest-mod x n k m h =
-    ap (λ p. chain_bytes (hashed x (m ++ p))) (same_padding (n + length m) (k + length m) (omega arith))
+    let same : padding (n + length m) ≡ padding (k + length m) = grind arith in rw same
 
 hashed_block : (x b p : List ℕ) → length b ≡ 64 → hashed x (b ++ p) ≡ hashed (compressed x b) p
 hashed_block x b p h =
@@ -30,8 +27,8 @@ pub digest_block : (x b m : List ℕ) (n : ℕ) → length b ≡ 64
     → digest_from x n (b ++ m) ≡ digest_from (compressed x b) ((n + 64) % 2 ^ 61) m
 unfolding digest_from
 digest_block x b m n h =
-    let e : padding (n + length (b ++ m)) ≡ padding ((n + 64) % 2 ^ 61 + length m) = same_padding _ _ (omega (arith, length-append b m)) in
-    ap chain_bytes (ap (hashed x) (append_assoc b m _) ∙ hashed_block x b _ h ∙ ap (λ p. hashed (compressed x b) (m ++ p)) e)
+    let e : padding (n + length (b ++ m)) ≡ padding ((n + 64) % 2 ^ 61 + length m) = grind (arith, length-append b m) in
+    rw (e, append_assoc) (ap chain_bytes (hashed_block x b (m ++ padding ((n + 64) % 2 ^ 61 + length m)) h))
 
 length-marked : (h : List ℕ) → length h < 64 → length (h ++ 0x80 ∷ replicate (63 - length h) 0) ≡ 64
 length-marked h l = grind (arith, places)

@@ -2,7 +2,7 @@ use Rattle.std.proofs.Common.{◌≡◌, ◌+◌, ◌*◌, ◌/◌, length, get_
 use Rattle.std.specs.Simd.{first_chunks}
 use Rattle.std.proofs.lemmas.List.{drop-drop}
 use Rattle.hash.specs.Rows.{after}
-use Rattle.hash.proofs.Chunks.{chunk_at}
+use Rattle.hash.proofs.Lists.{chunk_at}
 use Rattle.hash.proofs.Feeding.{after_halves}
 use Rattle.hash.proofs.block_input.absorb_whole.Goals as goal
 

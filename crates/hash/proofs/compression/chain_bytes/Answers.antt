@@ -2,7 +2,7 @@ use Rattle.std.proofs.Common.{get_or, [], ◌∙◌, rules}
 use Rattle.std.proofs.lemmas.List.Folds.{flat_map-map}
 use Rattle.hash.specs.Sha256.{big_endian}
 use Rattle.hash.proofs.ShaLaws.{word_bytes}
-use Rattle.hash.proofs.Words.{mapped}
+use Rattle.hash.proofs.Lists.{mapped}
 use Rattle.hash.proofs.compression.chain_bytes.Goals as goal
 
 pub returns : goal.returns

@@ -1,5 +1,5 @@
 use Rattle.std.proofs.Common.{◌-◌, length, arith}
-use Rattle.hash.proofs.Feeding.{marked_block}
+use Rattle.hash.proofs.Lists.{marked_block}
 use Rattle.hash.proofs.compression.marked.Goals as goal
 
 pub returns : goal.returns

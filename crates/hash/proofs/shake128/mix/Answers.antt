@@ -6,7 +6,7 @@ use Rattle.std.proofs.lemmas.List.{drop_all, get_or-drop}
 use Rattle.std.proofs.lemmas.Simd.{pick_l-range_with_len}
 use Rattle.hash.specs.Keccak.{five}
 use Rattle.hash.specs.Shake128.{word}
-use Rattle.hash.proofs.Chunks.{chunk_at}
+use Rattle.hash.proofs.Lists.{chunk_at}
 use Rattle.hash.proofs.shake128.mix.Goals as goal
 
 -- the sum of two rows
