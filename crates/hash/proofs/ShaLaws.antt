@@ -1,6 +1,6 @@
 -- Laws of SHA-256: padding, one block more, and the form of a digest.
 use Rattle.std.specs.Prelude.{◌≡◌, ℕ, suc, ◌+◌, ◌-◌, ◌*◌, ◌/◌, ◌%◌, ◌^◌, ◌<◌, ◌≤◌, List, [], ◌∷◌, ◌++◌, length, take, replicate}
-use Rattle.std.proofs.Common.{sym, ◌∙◌, div-one, arith}
+use Rattle.std.proofs.Common.{sym, refl, ◌∙◌, div-one, arith}
 use Rattle.std.proofs.Math.Path.{ap}
 use borrow.Rule.Slice.PartMut.{put_mid}
 use Rattle.std.proofs.lemmas.List.{append_assoc, append-nil, drop_all, drop-drop, length-append, length-take-le, replicate-append-replicate, places, take_all, take-replicate}
@@ -30,21 +30,20 @@ digest_block x b m n h =
     let e : padding (n + length (b ++ m)) ≡ padding ((n + 64) % 2 ^ 61 + length m) = grind (arith, length-append b m) in
     rw (e, append_assoc) (ap chain_bytes (hashed_block x b (m ++ padding ((n + 64) % 2 ^ 61 + length m)) h))
 
-length-marked : (h : List ℕ) → length h < 64 → length (h ++ 0x80 ∷ replicate (63 - length h) 0) ≡ 64
-length-marked h l = grind (arith, places)
+-- the block with the bytes h, a one bit and zeros
+abbrev marked : List ℕ → List ℕ
+marked h = h ++ 0x80 ∷ replicate (63 - length h) 0
 
 -- the bytes h and their padding, with q for the length: in one block, or in two
 module _ (h q : List ℕ) where
-  in_one : length h < 56
-      → h ++ (0x80 ∷ replicate ((119 - length h) % 64) 0 ++ q) ≡ take 56 (h ++ 0x80 ∷ replicate (63 - length h) 0) ++ q
+  in_one : length h < 56 → h ++ (0x80 ∷ replicate ((119 - length h) % 64) 0 ++ q) ≡ take 56 (marked h) ++ q
   in_one l =
       let z : (119 - length h) % 64 ≡ 55 - length h = omega arith in
       let y : 56 ≡ length h + suc (55 - length h) = omega arith in
       let r = take-replicate {X = ℕ} (55 - length h) (63 - length h) 0 (omega arith) in
       rw (z, y, take-append-add h (0x80 ∷ replicate (63 - length h) 0), r, append_assoc h (0x80 ∷ replicate (55 - length h) 0) q)
 
-  in_two : 56 ≤ length h → length h < 64
-      → h ++ (0x80 ∷ replicate ((119 - length h) % 64) 0 ++ q) ≡ (h ++ 0x80 ∷ replicate (63 - length h) 0) ++ (replicate 56 0 ++ q)
+  in_two : 56 ≤ length h → length h < 64 → h ++ (0x80 ∷ replicate ((119 - length h) % 64) 0 ++ q) ≡ marked h ++ (replicate 56 0 ++ q)
   in_two g l =
       let z : (119 - length h) % 64 ≡ 63 - length h + 56 = omega arith in
       rw (z, ← replicate-append-replicate {A = ℕ} (63 - length h) 56 0) (simp append_assoc)
@@ -54,25 +53,21 @@ module _ (x h : List ℕ) (n t : ℕ) (whole : n % 64 ≡ 0) (count : (n + lengt
   padding_is : padding (n + length h) ≡ 0x80 ∷ replicate ((119 - length h) % 64) 0 ++ big_endian 8 (8 * (t % 2 ^ 61))
   padding_is = let z : (n + length h) % 64 ≡ length h = omega arith in rw (z, count)
 
-  pub digest_short : (b : List ℕ) → length h < 56 → b ≡ h ++ 0x80 ∷ replicate (63 - length h) 0
-      → chain_bytes (compressed x (take 56 b ++ big_endian 8 (8 * (t % 2 ^ 61)))) ≡ digest_from x n h
-  unfolding digest_from big_endian
-  digest_short b s e =
-      let q = big_endian 8 (8 * (t % 2 ^ 61)) in
-      let p = ap (λ p. h ++ p) padding_is ∙ in_one h q s ∙ ap (λ m. take 56 m ++ q) (sym e) in
-      let m : length b ≡ 64 = ap length e ∙ length-marked h l in
-      let k : length (take 56 b ++ q) ≡ 64 = omega (arith, length-append (take 56 b) q, length-take-le 56 b (omega arith)) in
-      ap chain_bytes (sym (ap (hashed x) p ∙ hashed_one x (take 56 b ++ q) k))
+  long : length (marked h) ≡ 64
+  long = grind (arith, places)
 
-  pub digest_long : (b : List ℕ) → 56 ≤ length h → b ≡ h ++ 0x80 ∷ replicate (63 - length h) 0
-      → chain_bytes (compressed (compressed x b) (replicate 56 0 ++ big_endian 8 (8 * (t % 2 ^ 61)))) ≡ digest_from x n h
+  pub digest_short : length h < 56 → chain_bytes (compressed x (take 56 (marked h) ++ big_endian 8 (8 * (t % 2 ^ 61)))) ≡ digest_from x n h
   unfolding digest_from big_endian
-  digest_long b g e =
-      let q = replicate 56 0 ++ big_endian 8 (8 * (t % 2 ^ 61)) in
-      let p = ap (λ p. h ++ p) padding_is ∙ in_two h (big_endian 8 (8 * (t % 2 ^ 61))) g l ∙ ap (λ m. m ++ q) (sym e) in
-      let m : length b ≡ 64 = ap length e ∙ length-marked h l in
-      let k : length q ≡ 64 = omega (arith, length-append (replicate 56 0) (big_endian 8 (8 * (t % 2 ^ 61)))) in
-      ap chain_bytes (sym (ap (hashed x) p ∙ hashed_block x b q m ∙ hashed_one (compressed x b) q k))
+  digest_short s =
+      let q = big_endian 8 (8 * (t % 2 ^ 61)) in
+      let k : length (take 56 (marked h) ++ q) ≡ 64 = omega (arith, long, length-append (take 56 (marked h)) q, length-take-le 56 (marked h) (omega (arith, long))) in
+      sym (ap chain_bytes (ap (hashed x) (ap (λ p. h ++ p) padding_is ∙ in_one h q s) ∙ hashed_one x (take 56 (marked h) ++ q) k))
+
+  pub digest_long : 56 ≤ length h → chain_bytes (compressed (compressed x (marked h)) (replicate 56 0 ++ big_endian 8 (8 * (t % 2 ^ 61)))) ≡ digest_from x n h
+  unfolding digest_from big_endian
+  digest_long g =
+      let q = big_endian 8 (8 * (t % 2 ^ 61)) in
+      sym (ap chain_bytes (ap (hashed x) (ap (λ p. h ++ p) padding_is ∙ in_two h q g l) ∙ hashed_block x (marked h) (replicate 56 0 ++ q) long ∙ hashed_one (compressed x (marked h)) (replicate 56 0 ++ q) refl))
 
 -- what the code leaves in a block
 pub counted_is : (b z : List ℕ) (t : ℕ) → length b ≡ 64 → z ≡ big_endian 8 (8 * (t % 2 ^ 61))

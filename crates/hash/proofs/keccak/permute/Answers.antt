@@ -14,7 +14,8 @@ loop-constant-preserved c =
     let i = c.loop-constant.constant-index in
     let A = lanes_of c.loop-constant.a in
     let table = c.round_constants-constant-items.ensures in
-    ap (rounds (drop (i + 1) constants)) (c.round-a.ensures ∙ ap (λ l. round (get_or l i 0) A) table) ∙ sym (at_drop_more (λ left. rounds left A) constants i 0 (omega (arith, ap length table))) ∙ c.loop-constant.invariant
+    let next = at_drop_more (λ left. rounds left A) constants i 0 (omega (arith, ap length table)) in
+    rw (c.round-a.ensures, table, ← next) c.loop-constant.invariant
 
 pub returns : goal.returns
 unfolding rounds
