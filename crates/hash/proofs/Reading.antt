@@ -99,16 +99,15 @@ gives_rest m row middle left out more h a b =
     rw bytes (gives_more m _ (length out) row middle left (take m out) more all a b)
 
 -- the first of a row's blocks
-pub blocks_give : (size : ℕ) (blocks : ℕ → List ℕ) → 0 < size → size ≤ length (blocks 0) → Gives size (in_blocks size blocks) (take size (blocks 0)) (in_blocks size (λ n. blocks (suc n)))
-blocks_give size blocks some long =
-    let n : length (take size (blocks 0)) ≡ size = length-take-le size (blocks 0) long in
+pub blocks_give : (size : ℕ) (blocks : ℕ → List ℕ) (block : List ℕ) → 0 < size → length block ≡ size → block ≡ take size (blocks 0) → Gives size (in_blocks size blocks) block (in_blocks size (λ n. blocks (suc n)))
+blocks_give size blocks block some long is =
     record {
-      filled = rw n at (front_from (take size (blocks 0)) (in_blocks size blocks) (λ k h. get_or-take size (blocks 0) k 0 (omega arith) ∙ sym (first k (omega arith))));
+      filled = rw long at (front_from block (in_blocks size blocks) (λ k h. ap (λ bytes. get_or bytes k 0) is ∙ first k (omega arith)));
       rest = fun_ext (λ k. sym (next k));
     }
   where
-    first : (k : ℕ) → k < size → in_blocks size blocks k ≡ get_or (blocks 0) k 0
-    first k h = rw (div-eq_of_lt h, mod-eq_of_lt h)
+    first : (k : ℕ) → k < size → get_or (take size (blocks 0)) k 0 ≡ in_blocks size blocks k
+    first k h = rw (get_or-take, div-eq_of_lt h, mod-eq_of_lt h)
 
     next : (k : ℕ) → in_blocks size blocks (size + k) ≡ in_blocks size (λ n. blocks (suc n)) k
     next k = rw (add-div_left k some, add-mod_left, add-one)

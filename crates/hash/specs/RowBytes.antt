@@ -14,8 +14,7 @@ below-flat_map f (x ∷ xs) p k = grind (arith, places, p x, below-flat_map f xs
 
 digits_below : (n w k : ℕ) → slice_index (digits_l 256 n w) k < 256
 digits_below zero w k = omega arith
-digits_below (suc n) w zero = mod_below w 256 (omega arith)
-digits_below (suc n) w (suc k) = digits_below n (w / 256) k
+digits_below (suc n) w k = grind (arith, places, mod_below w 256, digits_below n (w / 256))
 
 word_below : (w k : ℕ) → slice_index (big_endian 4 w) k < 256
 unfolding big_endian

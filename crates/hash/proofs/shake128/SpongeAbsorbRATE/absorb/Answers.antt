@@ -8,4 +8,4 @@ use Rattle.hash.proofs.shake128.SpongeAbsorbRATE.absorb.Goals as goal
 
 pub returns : goal.returns
 returns c =
-    fun_ext (λ m. ap squeezed (ap (λ A. sponge A m) (c.permute-self.ensures ∙ ap permuted c.mix.ensures) ∙ sym (sponge_block (lanes_of c.args.self.now.0) c.args.block.now m (search rules))))
+    fun_ext (λ m. rw (c.permute-self.ensures, c.mix.ensures) (ap squeezed (sym (sponge_block (lanes_of c.args.self.now.0) c.args.block.now m (search rules)))))

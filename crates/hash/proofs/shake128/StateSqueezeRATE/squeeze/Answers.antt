@@ -12,5 +12,4 @@ returns c =
     let block = c.front_block.result in
     let filled : block ≡ take 168 (state_bytes A) = cc in
     let size : length block ≡ 168 = search rules in
-    let long : 168 ≤ length (state_bytes A) = omega (arith, ap length filled, length-take 168 (state_bytes A)) in
-    rw (filled, c.permute.ensures) (blocks_give 168 (λ n. state_bytes (permuted_times n A)) (omega arith) long)
+    rw c.permute.ensures (blocks_give 168 (λ n. state_bytes (permuted_times n A)) block (omega arith) size filled)
