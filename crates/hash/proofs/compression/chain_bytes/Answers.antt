@@ -10,4 +10,4 @@ returns c =
     let x = c.args.chain.words in
     let made = c.map.ensures.items in
     let bytes = mapped (big_endian 4) 8 x c.map.result 0 [] (search rules) made.long (λ k l. (made.at k 0 [] l).2.met ∙ word_bytes (get_or x k 0)) in
-    c.copy_from_slice.ensures.after ∙ c.as_flattened.ensures.value ∙ rw bytes (flat_map-map (λ b. b) (big_endian 4) x)
+    rw (c.copy_from_slice.ensures.after, c.as_flattened.ensures.value, bytes, flat_map-map)

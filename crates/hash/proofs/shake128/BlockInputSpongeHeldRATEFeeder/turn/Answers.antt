@@ -10,5 +10,4 @@ pub returns : goal.returns
 returns c =
     let A = lanes_of c.args.self.below.0 in
     let held = c.bytes.result.now in
-    let mixed-in = c.mix.ensures ∙ ap (mixed A) c.padded.ensures in
-    rw (append-nil, ← c.bytes.ensures.held) (c.new.ensures ∙ ap squeezed (ap permuted mixed-in ∙ sym (sponge_last A held c.bytes.ensures.room)))
+    rw (c.new.ensures, c.mix.ensures, c.padded.ensures, append-nil, ← c.bytes.ensures.held) (ap squeezed (sym (sponge_last A held c.bytes.ensures.room)))
