@@ -4,7 +4,7 @@ use mathlib.Core.Path.{fun_ext}
 use native.Mathlib.Nat.{add-div_left, add-mod_left, div-eq_of_lt, sub-zero}
 use borrow.Rule.Slice.PartMut.{put_mid}
 use Rattle.std.proofs.lemmas.Slice.{overwrites}
-use Rattle.std.proofs.lemmas.List.{drop-drop, get_or-take, length-take-le, nil_from_length, take_all}
+use Rattle.std.proofs.lemmas.List.{drop-drop, get_or-take, nil_from_length, take_all}
 use Rattle.hash.specs.Blocks.{in_blocks}
 use Rattle.hash.specs.Rows.{Row, past, front, ahead, unread, Gives}
 

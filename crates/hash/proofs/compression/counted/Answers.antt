@@ -1,4 +1,4 @@
-use Rattle.std.proofs.Common.{◌≡◌, length, refl, ◌∙◌, rules}
+use Rattle.std.proofs.Common.{refl, ◌∙◌, rules}
 use Rattle.hash.proofs.ShaLaws.{count_bytes, counted_is}
 use Rattle.hash.proofs.compression.counted.Goals as goal
 

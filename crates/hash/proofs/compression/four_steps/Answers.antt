@@ -1,4 +1,4 @@
-use Rattle.std.proofs.Common.{◌≡◌, length, sym, ◌∙◌, arith, rules}
+use Rattle.std.proofs.Common.{sym, ◌∙◌, rules}
 use Rattle.hash.specs.Sha256.{started}
 use Rattle.hash.proofs.RoundLaws.{rounds_longer}
 use Rattle.hash.proofs.compression.four_steps.Goals as goal

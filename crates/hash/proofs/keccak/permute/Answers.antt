@@ -1,6 +1,6 @@
-use Rattle.std.proofs.Common.{◌+◌, length, get_or, drop, sym, refl, ap, ◌∙◌, arith}
+use Rattle.std.proofs.Common.{length, sym, refl, ap, ◌∙◌, arith}
 use Rattle.std.proofs.lemmas.List.{at_drop_all, at_drop_more}
-use Rattle.hash.specs.Keccak.{constants, permuted, round, rounds}
+use Rattle.hash.specs.Keccak.{constants, permuted, rounds}
 use Rattle.hash.specs.Lanes.{lanes_of}
 use Rattle.hash.proofs.keccak.permute.Goals as goal
 

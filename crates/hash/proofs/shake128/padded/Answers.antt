@@ -1,6 +1,4 @@
-use Rattle.std.proofs.Common.{◌≡◌, ◌-◌, ◌%◌, ◌++◌, length, get_or, set, refl, ap, ◌∙◌, arith}
-use lib.Bits.{bit_xor}
-use Rattle.hash.specs.Shake128.{pad}
+use Rattle.std.proofs.Common.{◌≡◌, ◌-◌, ◌%◌, length, refl, arith}
 use Rattle.hash.proofs.Lists.{marked_block}
 use Rattle.hash.proofs.Sponges.{padded_is}
 use Rattle.hash.proofs.shake128.padded.Goals as goal

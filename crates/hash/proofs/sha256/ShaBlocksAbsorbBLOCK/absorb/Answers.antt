@@ -1,6 +1,5 @@
-use Rattle.std.proofs.Common.{◌+◌, ◌*◌, ◌%◌, ◌^◌, sym, ap, ◌∙◌, arith, rules}
+use Rattle.std.proofs.Common.{◌+◌, ◌*◌, ◌%◌, ◌^◌, arith, rules}
 use mathlib.Core.Path.{fun_ext}
-use Rattle.hash.specs.Sha256.{digest_from}
 use Rattle.hash.proofs.ShaLaws.{digest_block, digest-mod}
 use Rattle.hash.proofs.sha256.ShaBlocksAbsorbBLOCK.absorb.Goals as goal
 

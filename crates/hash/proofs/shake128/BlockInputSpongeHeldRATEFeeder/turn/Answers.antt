@@ -1,8 +1,7 @@
-use Rattle.std.proofs.Common.{ap, ◌∙◌, sym}
+use Rattle.std.proofs.Common.{ap, sym}
 use Rattle.std.proofs.lemmas.List.{append-nil}
-use Rattle.hash.specs.Keccak.{permuted}
 use Rattle.hash.specs.Lanes.{lanes_of}
-use Rattle.hash.specs.Shake128.{mixed, squeezed}
+use Rattle.hash.specs.Shake128.{squeezed}
 use Rattle.hash.proofs.Sponges.{sponge_last}
 use Rattle.hash.proofs.shake128.BlockInputSpongeHeldRATEFeeder.turn.Goals as goal
 

@@ -1,8 +1,7 @@
-use Rattle.std.proofs.Common.{sym, ap, ◌∙◌, rules}
+use Rattle.std.proofs.Common.{sym, ap, rules}
 use mathlib.Core.Path.{fun_ext}
-use Rattle.hash.specs.Keccak.{permuted}
 use Rattle.hash.specs.Lanes.{lanes_of}
-use Rattle.hash.specs.Shake128.{sponge, squeezed}
+use Rattle.hash.specs.Shake128.{squeezed}
 use Rattle.hash.proofs.Sponges.{sponge_block}
 use Rattle.hash.proofs.shake128.SpongeAbsorbRATE.absorb.Goals as goal
 
