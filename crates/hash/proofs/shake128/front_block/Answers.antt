@@ -5,7 +5,7 @@ use Rattle.std.proofs.lemmas.Grind.{flat_map-append}
 use Rattle.std.proofs.lemmas.List.{length-take-le}
 use Rattle.std.proofs.lemmas.List.Folds.{flat_map-map}
 use Rattle.hash.specs.Shake128.{lane_bytes, state_bytes}
-use Rattle.hash.proofs.Words.{mapped}
+use Rattle.hash.proofs.Lists.{mapped}
 use Rattle.hash.proofs.shake128.front_block.Goals as goal
 
 -- rows as words of bytes, joined twice

@@ -1,6 +1,6 @@
 use Rattle.std.proofs.Common.{[], rules}
 use lib.Lanes.{digits_l}
-use Rattle.hash.proofs.Words.{mapped}
+use Rattle.hash.proofs.Lists.{mapped}
 use Rattle.hash.proofs.shake128.row_bytes.Goals as goal
 
 pub returns : goal.returns
