@@ -1,7 +1,8 @@
 -- The law of reading. Assumes nothing.
-use Rattle.std.proofs.Common.{◌≡◌, ℕ, zero, suc, ◌+◌, ◌≤◌, Bool, true, false, cond, eqb, List, [], ◌∷◌, ◌++◌, length, take, drop, Some, None, Ok, Err, Option, sym, refl, ap, ◌∙◌, subst, inl, inr, ⊎_elim, append_assoc, arith, length-append, length-drop, take-append-drop}
+use Rattle.std.proofs.Common.{◌≡◌, ℕ, zero, suc, ◌+◌, ◌≤◌, List, [], ◌∷◌, ◌++◌, length, take, drop, Some, None, Ok, Err, Option, sym, refl, ap, ◌∙◌, subst, inl, inr, ⊎_elim, append_assoc, arith, length-append, length-drop, take-append-drop}
 use Rattle.std.proofs.lemmas.List.{length-take-le, take_at, drop_at}
-use Rattle.std.proofs.lemmas.Bool.{cases_lt, eqb-true, lt-ltb, le-ltb}
+use Rattle.std.proofs.lemmas.Bool.{cases_lt, lt-ltb, le-ltb}
+use Rattle.std.proofs.lemmas.Bool.Decides.{nat_tests}
 use Rattle.std.specs.List.{flat_map}
 use Rattle.fault.specs.declared.Origin.TheVariants.{Envelope}
 use Rattle.fault.specs.declared.Refusal.TheVariants.{UnknownKind, BodyCutShort}
@@ -21,13 +22,9 @@ kind_of-kind_byte (Signature S16) = refl
 kind_of-kind_byte (Signature Rehearsal) = refl
 kind_of-kind_byte Day = refl
 
-byte_first : (t : Bool) (b : ℕ) (j k : Kind) (o : Option Kind) → (t ≡ true → kind_byte j ≡ b) → (o ≡ Some k → kind_byte k ≡ b) → cond t (Some j) o ≡ Some k → kind_byte k ≡ b
-byte_first true b j k o here later e = let same : j ≡ k = cc in ap kind_byte (sym same) ∙ here refl
-byte_first false b j k o here later e = later e
-
 byte_among : (ks : List Kind) (b : ℕ) (k : Kind) → kind_among ks b ≡ Some k → kind_byte k ≡ b
 byte_among [] b k e = absurd (grind arith)
-byte_among (j ∷ ks) b k e = byte_first (eqb (kind_byte j) b) b j k (kind_among ks b) (eqb-true (kind_byte j) b) (byte_among ks b k) e
+byte_among (j ∷ ks) b k e = grind (arith, nat_tests, byte_among ks b k)
 
 -- what stands first is a whole record, or nothing that can be read
 data First (place b : ℕ) (bytes : List ℕ) : Next → Type 0 where

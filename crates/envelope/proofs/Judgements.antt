@@ -1,6 +1,7 @@
 -- What the judge keeps from record to record, and why its answer is exact. Assumes nothing.
-use Rattle.std.proofs.Common.{◌≡◌, ℕ, Bool, true, false, cond, ◌&&◌, leb, List, [], ◌∷◌, length, Some, None, Option, sym, refl, ap, ◌∙◌, arith}
+use Rattle.std.proofs.Common.{◌≡◌, ℕ, Bool, true, ◌&&◌, leb, List, [], ◌∷◌, length, Some, None, Option, sym, refl, ap, ◌∙◌, arith}
 use Rattle.std.proofs.lemmas.Bool.{false≢true, and_parts, leb-true, le-leb}
+use Rattle.std.proofs.lemmas.Option.{cond_some}
 use Rattle.std.specs.Option.{ok_or}
 use Rattle.fault.specs.declared.Refusal.TheVariants.{NotOneCouple}
 use Rattle.fault.specs.Numbers.{Told}
@@ -23,30 +24,22 @@ pub record Counted (all : Outcome) (place : ℕ) (left : List ℕ) (t : Tally) :
 
 same_set_true : (a b : Set) → same_set a b ≡ true → a ≡ b
 same_set_true S16 S16 e = refl
-same_set_true S16 Rehearsal e = absurd (false≢true e)
-same_set_true Rehearsal S16 e = absurd (false≢true e)
 same_set_true Rehearsal Rehearsal e = refl
+same_set_true a b e = absurd (false≢true e)
 
 same_set_same : (a : Set) → same_set a a ≡ true
 same_set_same S16 = refl
 same_set_same Rehearsal = refl
 
-chosen : {X : Type 0} (t : Bool) (x y : X) → cond t (Some x) None ≡ Some y → (t ≡ true) × (x ≡ y)
-chosen true x y e = (refl, cc)
-chosen false x y e = absurd (grind arith)
-
 -- a couple is found among records just where there is one
 coupled_from : (ks ss : List Item) (few : Bool) (k s : Item) → coupled (only ks) (only ss) few ≡ Some (k, s) → (ks ≡ k ∷ []) × (ss ≡ s ∷ []) × (k.set ≡ s.set) × (few ≡ true)
-coupled_from [] ss few k s e = absurd (grind arith)
-coupled_from (x ∷ y ∷ zs) ss few k s e = absurd (grind arith)
-coupled_from (x ∷ []) [] few k s e = absurd (grind arith)
-coupled_from (x ∷ []) (y ∷ z ∷ zs) few k s e = absurd (grind arith)
 coupled_from (x ∷ []) (y ∷ []) few k s e =
-    let c = chosen (same_set x.set y.set && few) (x, y) (k, s) e in
+    let c = cond_some (same_set x.set y.set && few) (x, y) (k, s) e in
     let t = and_parts (same_set x.set y.set) few c.0 in
     let xk : x ≡ k = ap (λ p. p.0) c.1 in
     let ys : y ≡ s = ap (λ p. p.1) c.1 in
     (ap (λ i. i ∷ []) xk, ap (λ i. i ∷ []) ys, sym (ap (λ i. i.set) xk) ∙ same_set_true x.set y.set t.0 ∙ ap (λ i. i.set) ys, t.1)
+coupled_from ks ss few k s e = absurd (grind arith)
 
 couples_from : (es : List Entry) (k s : Item) → couple_of es ≡ Some (k, s) → Couples es k s
 couples_from es k s e =
