@@ -11,7 +11,7 @@ use Rattle.envelope.specs.declared.kind.Kind.{Kind}
 use Rattle.envelope.specs.declared.kind.Kind.TheVariants.{Key, Signature, Day}
 use Rattle.envelope.specs.declared.kind.Set.TheVariants.{S16, Rehearsal}
 use Rattle.envelope.specs.Entries.{Entry, written}
-use Rattle.envelope.specs.Kinds.{kind_byte, body_length, kind_of, kind_among, kinds}
+use Rattle.envelope.specs.Kinds.{kind_byte, body_length, kind_of}
 use Rattle.envelope.specs.Law.{Placed, Stands, Faithful}
 use Rattle.envelope.specs.Reading.{Next, Outcome, next_at, next_kind, taken, continued, fault_at, reading_within, reading_from, reading}
 
@@ -22,9 +22,8 @@ kind_of-kind_byte (Signature S16) = refl
 kind_of-kind_byte (Signature Rehearsal) = refl
 kind_of-kind_byte Day = refl
 
-byte_among : (ks : List Kind) (b : ℕ) (k : Kind) → kind_among ks b ≡ Some k → kind_byte k ≡ b
-byte_among [] b k e = absurd (grind arith)
-byte_among (j ∷ ks) b k e = grind (arith, nat_tests, byte_among ks b k)
+byte_of : (b : ℕ) (k : Kind) → kind_of b ≡ Some k → kind_byte k ≡ b
+byte_of b k e = grind (arith, nat_tests)
 
 -- what stands first is a whole record, or nothing that can be read
 data First (place b : ℕ) (bytes : List ℕ) : Next → Type 0 where
@@ -35,11 +34,11 @@ first : (place b : ℕ) (bytes : List ℕ) → First place b bytes (next_at plac
 first place b bytes = go (kind_of b) refl
   where
     go : (o : Option Kind) → kind_of b ≡ o → First place b bytes (next_kind place o bytes)
-    go None e = refused (fault_at UnknownKind place) refl refl (inl (refl, λ k is. let none : Some k ≡ None = sym (kind_of-kind_byte k) ∙ ap kind_of is ∙ e in grind arith))
+    go None e = refused (fault_at UnknownKind place) refl refl (inl (refl, λ k is. grind (arith, kind_of-kind_byte)))
     go (Some k) e =
         ⊎_elim
-        (λ less. rw (lt-ltb (length bytes) (body_length k) less) (refused (fault_at BodyCutShort place) refl refl (inr (refl, (k, byte_among kinds b k e, less)))))
-        (λ long. rw (le-ltb (length bytes) (body_length k) long) (whole k (byte_among kinds b k e) long))
+        (λ less. rw (lt-ltb (length bytes) (body_length k) less) (refused (fault_at BodyCutShort place) refl refl (inr (refl, (k, byte_of b k e, less)))))
+        (λ long. rw (le-ltb (length bytes) (body_length k) long) (whole k (byte_of b k e) long))
         (cases_lt (length bytes) (body_length k))
 
 -- the law for the bytes from a place on
