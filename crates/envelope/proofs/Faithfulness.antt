@@ -1,5 +1,5 @@
 -- The law of reading. Assumes nothing.
-use Rattle.std.proofs.Common.{◌≡◌, ℕ, zero, suc, ◌+◌, ◌≤◌, List, [], ◌∷◌, ◌++◌, length, take, drop, Some, None, Ok, Option, sym, refl, ap, ◌∙◌, subst, inl, inr, ⊎_elim, append_assoc, arith, length-append, length-drop, take-append-drop}
+use Rattle.std.proofs.Common.{◌≡◌, ℕ, zero, suc, ◌+◌, ◌≤◌, List, [], ◌∷◌, ◌++◌, length, take, drop, Some, None, Ok, Option, refl, ap, ◌∙◌, subst, inl, inr, ⊎_elim, append_assoc, arith, length-append, length-drop, take-append-drop}
 use Rattle.std.proofs.lemmas.List.{length-take-le, take_at, drop_at}
 use Rattle.std.proofs.lemmas.Bool.{cases_lt, lt-ltb, le-ltb}
 use Rattle.std.proofs.lemmas.Bool.Decides.{nat_tests}
@@ -83,11 +83,7 @@ law bytes =
       whole = λ e. let none : all.left ≡ [] = rw e at all.ends in grind (arith, common_steps, all.all);
       stopped = λ f e.
           let s = rw e at all.ends in
-          let at : length (flat_map written (reading bytes).entries) ≡ f.place = omega (arith, s.1) in
-          record {
-            origin = s.0;
-            before = sym (take_at _ all.left _ at) ∙ ap (take f.place) all.all;
-            stands = subst (Stands f.number) (sym (drop_at _ all.left _ at) ∙ ap (drop f.place) all.all) s.2;
-          };
+          let here : all.left ≡ drop f.place bytes = grind (arith, common_steps, all.all, s.1) in
+          record { origin = s.0; before = grind (arith, common_steps, all.all, s.1); stands = rw (← here) s.2 };
       only = λ es p e. let same = again 0 es p in rw (← e) (ap (λ o. o.entries) same, ap (λ o. o.fault) same);
     }

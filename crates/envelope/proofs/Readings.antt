@@ -1,5 +1,5 @@
 -- Readings step by step, as a loop over `next` takes them. Assumes nothing.
-use Rattle.std.proofs.Common.{◌≡◌, ℕ, zero, suc, ◌+◌, ◌<◌, ◌≤◌, List, [], ◌∷◌, ◌++◌, map, length, drop, Some, None, Ok, Err, Option, sym, refl, ap, ◌∙◌, append_assoc, append-nil, arith, length-drop}
+use Rattle.std.proofs.Common.{◌≡◌, ℕ, zero, suc, ◌+◌, ◌≤◌, List, [], ◌∷◌, ◌++◌, map, length, drop, Some, None, Ok, Err, Option, sym, refl, ap, ◌∙◌, append_assoc, append-nil, arith, length-drop}
 use Rattle.std.proofs.lemmas.List.{map_push}
 use Rattle.fault.specs.Numbers.{Told}
 use Rattle.envelope.specs.declared.record.Record.{Record}
@@ -11,19 +11,16 @@ after_step : (x : Next) (place b : ℕ) (bytes : List ℕ) (F G : ℕ → List �
     → continued x (F (place + taken x) (drop (taken x) (b ∷ bytes))) ≡ continued x (G (place + taken x) (drop (taken x) (b ∷ bytes)))
 after_step (Ok (Some e)) place b bytes F G same =
     ap (continued (Ok (Some e))) (same _ _ (omega (arith, length-drop (length e.body) bytes)))
-after_step (Ok None) place b bytes F G same = refl
-after_step (Err f) place b bytes F G same = refl
+after_step x place b bytes F G same = refl
 
 -- the same is read in any number of turns that is enough
 enough : (m n place : ℕ) (bytes : List ℕ) → length bytes ≤ m → length bytes ≤ n → reading_within m place bytes ≡ reading_within n place bytes
 enough zero zero place bytes lm ln = refl
-enough zero (suc n) place [] lm ln = refl
-enough zero (suc n) place (b ∷ bytes) lm ln = absurd (omega arith)
-enough (suc m) zero place [] lm ln = refl
-enough (suc m) zero place (b ∷ bytes) lm ln = absurd (omega arith)
-enough (suc m) (suc n) place [] lm ln = refl
 enough (suc m) (suc n) place (b ∷ bytes) lm ln =
     after_step (next_at place (b ∷ bytes)) place b bytes (reading_within m) (reading_within n) (λ p left h. enough m n p left (omega arith) (omega arith))
+enough (suc m) zero place [] lm ln = refl
+enough m n place (b ∷ bytes) lm ln = absurd (omega arith)
+enough m n place [] lm ln = refl
 
 -- a reading is its first step and the reading of what is left
 pub step : (place : ℕ) (bytes : List ℕ) → reading_from place bytes ≡ continued (next_at place bytes) (reading_from (place + taken (next_at place bytes)) (drop (taken (next_at place bytes)) bytes))
@@ -38,9 +35,6 @@ preceded es o = record { entries = es ++ o.entries; fault = o.fault }
 -- the reading all is the records es, and what is read from a place on, where left are the bytes
 pub record Sofar (all : Outcome) (es : List Entry) (place : ℕ) (left : List ℕ) : Type 0 where
   pub is : all ≡ preceded es (reading_from place left)
-
-pub begun : (es : List Entry) (place : ℕ) (left : List ℕ) → es ≡ [] → Sofar (reading_from place left) es place left
-begun es place left none = record { is = ap (λ xs. preceded xs (reading_from place left)) (sym none) }
 
 -- the next step of the reading
 then_on : {all : Outcome} {es : List Entry} {place : ℕ} {left : List ℕ} → Sofar all es place left → (x : Next) → x ≡ next_at place left
@@ -70,14 +64,6 @@ pub took : {place next : ℕ} {left rest : List ℕ} (o : Option Record) (r : Re
 took o r is answers at after = record { found = rw is at answers; at = rw is at at; after = rw is at after }
 
 module _ {place next : ℕ} {left rest : List ℕ} {e : Entry} (one : Took place left e next rest) where
-  -- a record has at least its kind byte
-  pub shorter : length rest < length left
-  shorter = rw one.after (go left one.found)
-    where
-      go : (bs : List ℕ) → Ok (Some e) ≡ next_at place bs → length (drop (length (written e)) bs) < length bs
-      go [] found = absurd (grind arith)
-      go (b ∷ bs) found = omega (arith, length-drop (length e.body) bs)
-
   pub one_more : {all : Outcome} {es more : List Entry} → Sofar all es place left → more ≡ es ++ e ∷ [] → Sofar all more next rest
   one_more {all} {es} {more} before grown =
       let on : Outcome = reading_from (place + length (written e)) (drop (length (written e)) left) in
