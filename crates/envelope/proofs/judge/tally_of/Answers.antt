@@ -1,5 +1,4 @@
-use Rattle.std.proofs.Common.{refl}
-use Rattle.envelope.proofs.Readings.{took, one_more}
+use Rattle.envelope.proofs.Readings.{one_more}
 use Rattle.envelope.proofs.judge.tally_of.Goals as goal
 
 pub loop-record-preserved : goal.loop-record-preserved
@@ -8,6 +7,6 @@ loop-record-preserved c =
     let old = c.loop-record.invariant in
     record {
       entries = _;
-      sofar = one_more (took _ _ c.in-Some.is told.answers told.place told.rest) old.sofar refl;
+      sofar = one_more old.sofar _ _ _ _ c.in-Some.is told.answers told.place told.rest;
       tallies = c.add.ensures old.entries old.tallies;
     }
