@@ -9,12 +9,12 @@ use Rattle.fault.specs.declared.Refusal.TheVariants.{UnknownKind, BodyCutShort}
 use Rattle.fault.specs.Numbers.{letter, number, Told}
 use Rattle.fault.specs.declared.Refusal.{Refusal}
 use Rattle.std.proofs.lemmas.Grind.{common_steps}
-use Rattle.envelope.proofs.Readings.{step}
+use Rattle.envelope.proofs.Readings.{onward, step}
 use Rattle.envelope.specs.declared.kind.Kind.{Kind}
 use Rattle.envelope.specs.Entries.{Entry, written}
 use Rattle.envelope.specs.Kinds.{kind_byte, body_length, kind_of}
 use Rattle.envelope.specs.Law.{Placed, Stands, Faithful}
-use Rattle.envelope.specs.Reading.{Outcome, next_at, next_kind, taken, continued, fault_at, reading_from, reading}
+use Rattle.envelope.specs.Reading.{Outcome, next_at, next_kind, fault_at, reading_from, reading}
 
 kind_of-kind_byte : (k : Kind) → kind_of (kind_byte k) ≡ Some k
 kind_of-kind_byte k = grind (arith, nat_tests)
@@ -50,10 +50,10 @@ whole place b bytes k o is long next =
     }
 
 first : (place b : ℕ) (bytes : List ℕ) → ((p : ℕ) (left : List ℕ) → length left ≤ length bytes → From p left (reading_from p left))
-    → From place (b ∷ bytes) (continued (next_at place (b ∷ bytes)) (reading_from (place + taken (next_at place (b ∷ bytes))) (drop (taken (next_at place (b ∷ bytes))) (b ∷ bytes))))
+    → From place (b ∷ bytes) (onward (next_at place (b ∷ bytes)) place (b ∷ bytes))
 first place b bytes rest = go (kind_of b) refl
   where
-    go : (o : Option Kind) → kind_of b ≡ o → From place (b ∷ bytes) (continued (next_kind place o bytes) (reading_from (place + taken (next_kind place o bytes)) (drop (taken (next_kind place o bytes)) (b ∷ bytes))))
+    go : (o : Option Kind) → kind_of b ≡ o → From place (b ∷ bytes) (onward (next_kind place o bytes) place (b ∷ bytes))
     go None e = refused place b bytes UnknownKind (inl (refl, λ k is. grind (arith, kind_of-kind_byte)))
     go (Some k) e =
         ⊎_elim

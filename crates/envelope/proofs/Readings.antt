@@ -1,5 +1,5 @@
 -- Readings step by step, as a loop over `next` takes them. Assumes nothing.
-use Rattle.std.proofs.Common.{◌≡◌, ℕ, zero, suc, ◌+◌, ◌≤◌, List, [], ◌∷◌, ◌++◌, length, drop, Some, None, Ok, Err, Option, refl, ap, append_assoc, arith, length-drop}
+use Rattle.std.proofs.Common.{◌≡◌, ℕ, zero, suc, ◌+◌, ◌≤◌, List, [], ◌∷◌, ◌++◌, length, drop, Some, None, Ok, Err, Option, refl, ap, arith, length-drop}
 use Rattle.fault.specs.Numbers.{Told}
 use Rattle.envelope.specs.declared.record.Record.{Record}
 use Rattle.envelope.specs.Entries.{Entry, entry}
@@ -52,6 +52,5 @@ module _ {all : Outcome} {es : List Entry} {place : ℕ} {left : List ℕ} (befo
   pub one_more : (o : Option Record) (r : Record) (next : ℕ) (rest : List ℕ) → o ≡ Some r → answered (Ok o) ≡ next_at place left → next ≡ place + taken (answered (Ok o)) → rest ≡ drop (taken (answered (Ok o))) left
       → Sofar all (es ++ entry r ∷ []) next rest
   one_more o r next rest some is at after =
-      let is : Ok (Some (entry r)) ≡ next_at place left = rw some at is in
-      let more = on (Ok (Some (entry r))) is in
-      rw (rw some at at, rw some at after) (record { entries = grind (arith, common_steps, append_assoc); fault = more.1 })
+      let more = on (Ok (Some (entry r))) (rw some at is) in
+      rw (rw some at at, rw some at after) (record { entries = grind (arith, common_steps); fault = more.1 })
