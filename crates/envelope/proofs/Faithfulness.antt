@@ -1,5 +1,5 @@
 -- The law of reading. Assumes nothing.
-use Rattle.std.proofs.Common.{◌≡◌, ℕ, zero, suc, ◌+◌, ◌≤◌, List, [], ◌∷◌, ◌++◌, length, take, drop, Some, None, Ok, Option, refl, ap, ◌∙◌, subst, inl, inr, ⊎_elim, append_assoc, arith, length-append, length-drop, take-append-drop}
+use Rattle.std.proofs.Common.{◌≡◌, ℕ, zero, suc, ◌+◌, ◌≤◌, List, [], ◌∷◌, ◌++◌, length, take, drop, Some, None, Ok, Option, refl, ◌∙◌, subst, inl, inr, ⊎_elim, append_assoc, arith, length-append, length-drop, take-append-drop}
 use Rattle.std.proofs.lemmas.List.{length-take-le, take_at, drop_at}
 use Rattle.std.proofs.lemmas.Bool.{cases_lt, lt-ltb, le-ltb}
 use Rattle.std.proofs.lemmas.Bool.Decides.{nat_tests}
@@ -9,12 +9,13 @@ use Rattle.fault.specs.declared.Refusal.TheVariants.{UnknownKind, BodyCutShort}
 use Rattle.fault.specs.Numbers.{letter, number, Told}
 use Rattle.fault.specs.declared.Refusal.{Refusal}
 use Rattle.std.proofs.lemmas.Grind.{common_steps}
+use Rattle.envelope.proofs.Steps.{found}
 use Rattle.envelope.proofs.Readings.{onward, step}
 use Rattle.envelope.specs.declared.kind.Kind.{Kind}
 use Rattle.envelope.specs.Entries.{Entry, written}
 use Rattle.envelope.specs.Kinds.{kind_byte, body_length, kind_of}
 use Rattle.envelope.specs.Law.{Placed, Stands, Faithful}
-use Rattle.envelope.specs.Reading.{Outcome, next_at, next_kind, fault_at, reading_from, reading}
+use Rattle.envelope.specs.Reading.{Outcome, next_at, next_kind, continued, fault_at, reading_from, reading}
 
 kind_of-kind_byte : (k : Kind) → kind_of (kind_byte k) ≡ Some k
 kind_of-kind_byte k = grind (arith, nat_tests)
@@ -35,18 +36,15 @@ refused : (place b : ℕ) (bytes : List ℕ) (r : Refusal) → Stands (number r)
 refused place b bytes r stands = record { placed = tt; left = b ∷ bytes; all = refl; ends = (refl, omega arith, stands) }
 
 -- a record, and what is read after it
-whole : (place b : ℕ) (bytes : List ℕ) (k : Kind) (o : Outcome) → kind_byte k ≡ b → body_length k ≤ length bytes
-    → From (place + suc (length (take (body_length k) bytes))) (drop (length (take (body_length k) bytes)) bytes) o
-    → From place (b ∷ bytes) (record { entries = record { place = place; kind = k; body = take (body_length k) bytes } ∷ o.entries; fault = o.fault })
-whole place b bytes k o is long next =
-    let body : List ℕ = take (body_length k) bytes in
+whole : (place : ℕ) (bytes : List ℕ) (e : Entry) (left : List ℕ) (o : Outcome) → written e ++ left ≡ bytes → e.place ≡ place → length e.body ≡ body_length e.kind
+    → From (place + length (written e)) left o → From place bytes (continued (Ok (Some e)) o)
+whole place bytes e left o is at size next =
     let more : List ℕ = flat_map written o.entries in
-    let size : length body ≡ body_length k = length-take-le (body_length k) bytes long in
     record {
-      placed = (refl, size, next.placed);
+      placed = (at, size, next.placed);
       left = next.left;
-      all = rw (is, append_assoc body more next.left, next.all, size, take-append-drop (body_length k) bytes) refl;
-      ends = subst (λ p. Ends p next.left o.fault) (omega (arith, length-append body more)) next.ends;
+      all = rw (append_assoc e.body more next.left, next.all) is;
+      ends = subst (λ p. Ends p next.left o.fault) (omega (arith, length-append e.body more)) next.ends;
     }
 
 first : (place b : ℕ) (bytes : List ℕ) → ((p : ℕ) (left : List ℕ) → length left ≤ length bytes → From p left (reading_from p left))
@@ -56,9 +54,14 @@ first place b bytes rest = go (kind_of b) refl
     go : (o : Option Kind) → kind_of b ≡ o → From place (b ∷ bytes) (onward (next_kind place o bytes) place (b ∷ bytes))
     go None e = refused place b bytes UnknownKind (inl (refl, λ k is. grind (arith, kind_of-kind_byte)))
     go (Some k) e =
+        let body : List ℕ = take (body_length k) bytes in
+        let is : kind_byte k ≡ b = grind (arith, nat_tests) in
         ⊎_elim
-        (λ less. rw (lt-ltb (length bytes) (body_length k) less) (refused place b bytes BodyCutShort (inr (refl, (k, grind (arith, nat_tests), less)))))
-        (λ long. rw (le-ltb (length bytes) (body_length k) long) (whole place b bytes k _ (grind (arith, nat_tests)) long (rest _ _ (omega (arith, length-drop (length (take (body_length k) bytes)) bytes)))))
+        (λ less. rw (lt-ltb (length bytes) (body_length k) less) (refused place b bytes BodyCutShort (inr (refl, (k, is, less)))))
+        (λ long.
+          let size : length body ≡ body_length k = length-take-le (body_length k) bytes long in
+          rw (le-ltb (length bytes) (body_length k) long)
+          (whole place (b ∷ bytes) (record { place = place; kind = k; body = body }) (drop (length body) bytes) _ (rw (is, size, take-append-drop (body_length k) bytes) refl) refl size (rest _ _ (omega (arith, length-drop (length body) bytes)))))
         (cases_lt (length bytes) (body_length k))
 
 from : (n place : ℕ) (bytes : List ℕ) → length bytes ≤ n → From place bytes (reading_from place bytes)
@@ -71,8 +74,8 @@ again : (place : ℕ) (es : List Entry) → Placed place es → reading_from pla
 again place [] p = refl
 again place (e ∷ es) p =
     let more : List ℕ = flat_map written es in
-    let known : next_at place (flat_map written (e ∷ es)) ≡ Ok (Some e) =
-    rw (kind_of-kind_byte e.kind, le-ltb (length (e.body ++ more)) (body_length e.kind) (omega (arith, p.1, length-append e.body more)), take_at e.body more (body_length e.kind) p.1, ← p.0) refl in
+    let known = found place (flat_map written (e ∷ es)) e.kind (kind_of-kind_byte e.kind) (omega (arith, p.1, length-append e.body more)) in
+    let known : next_at place (flat_map written (e ∷ es)) ≡ Ok (Some e) = rw (← known, take_at e.body more (body_length e.kind) p.1, ← p.0) refl in
     step place (flat_map written (e ∷ es)) ∙ rw (known, drop_at e.body more (length e.body) refl, again (place + length (written e)) es p.2) refl
 
 pub law : (bytes : List ℕ) → Faithful bytes (reading bytes)
@@ -85,5 +88,5 @@ law bytes =
           let s = rw e at all.ends in
           let here : all.left ≡ drop f.place bytes = grind (arith, common_steps, all.all, s.1) in
           record { origin = s.0; before = grind (arith, common_steps, all.all, s.1); stands = rw (← here) s.2 };
-      only = λ es p e. let same = again 0 es p in rw (← e) (ap (λ o. o.entries) same, ap (λ o. o.fault) same);
+      only = λ es p e. rw (← e, again 0 es p) (refl, refl);
     }

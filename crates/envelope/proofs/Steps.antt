@@ -1,5 +1,5 @@
 -- One step of a reading. Assumes nothing.
-use Rattle.std.proofs.Common.{◌≡◌, ℕ, ◌≤◌, List, [], ◌∷◌, length, get_or, take, drop, Some, Ok, Option, Result, arith}
+use Rattle.std.proofs.Common.{◌≡◌, ℕ, ◌≤◌, List, length, get_or, take, drop, Some, Ok, Option, Result, arith}
 use Rattle.std.specs.Option.{ok_or}
 use Rattle.std.specs.Result.{MatchResult}
 use Rattle.std.proofs.lemmas.Bool.Decides.{nat_tests}
@@ -17,5 +17,4 @@ known_from o k is through = let through = rw is at through in grind arith
 -- a record of kind k stands first, if its body is as long as that takes
 pub found : (place : ℕ) (all : List ℕ) (k : Kind) → kind_of (get_or all 0 0) ≡ Some k → body_length k ≤ length (drop 1 all)
     → ◌≡◌ {A = Next} (Ok (Some (record { place = place; kind = k; body = take (body_length k) (drop 1 all) }))) (next_at place all)
-found place [] k known long = absurd (grind arith)
-found place (b ∷ bytes) k known long = rw known (grind (arith, nat_tests))
+found place all k known long = grind (arith, nat_tests)
