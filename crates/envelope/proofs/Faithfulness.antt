@@ -74,8 +74,8 @@ again : (place : ℕ) (es : List Entry) → Placed place es → reading_from pla
 again place [] p = refl
 again place (e ∷ es) p =
     let more : List ℕ = flat_map written es in
-    let known = found place (flat_map written (e ∷ es)) e.kind (kind_of-kind_byte e.kind) (omega (arith, p.1, length-append e.body more)) in
-    let known : next_at place (flat_map written (e ∷ es)) ≡ Ok (Some e) = rw (← known, take_at e.body more (body_length e.kind) p.1, ← p.0) refl in
+    let here = found place (flat_map written (e ∷ es)) e.kind (kind_of-kind_byte e.kind) (omega (arith, p.1, length-append e.body more)) in
+    let known : next_at place (flat_map written (e ∷ es)) ≡ Ok (Some e) = rw (← here, take_at e.body more (body_length e.kind) p.1, ← p.0) refl in
     step place (flat_map written (e ∷ es)) ∙ rw (known, drop_at e.body more (length e.body) refl, again (place + length (written e)) es p.2) refl
 
 pub law : (bytes : List ℕ) → Faithful bytes (reading bytes)
