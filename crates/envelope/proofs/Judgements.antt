@@ -1,20 +1,10 @@
--- What the judge keeps from record to record, and why its answer is exact. Assumes nothing.
+-- Why the answer of the judge is exact. Assumes nothing.
 use Rattle.std.proofs.Common.{◌≡◌, ℕ, List, length, Some, None, Option, refl, arith}
 use Rattle.std.proofs.lemmas.Bool.Decides.{nat_tests}
 use Rattle.fault.specs.Numbers.{Told}
-use Rattle.envelope.specs.declared.tally.Tally.{Tally}
-use Rattle.envelope.specs.Entries.{Entry}
 use Rattle.envelope.specs.Judging.{Item, couple_of, judged, Exact}
 use Rattle.envelope.specs.Law.{Faithful}
 use Rattle.envelope.specs.Reading.{Outcome}
-use Rattle.envelope.specs.Tallies.{Tallies}
-use Rattle.envelope.proofs.Readings.{Sofar}
-
--- the records before a place, and their tally
-pub record Counted (all : Outcome) (place : ℕ) (left : List ℕ) (t : Tally) : Type 0 where
-  pub entries : List Entry
-  pub sofar : Sofar all entries place left
-  pub tallies : Tallies t entries
 
 -- where a reading is faithful, what is judged of it is exact
 pub exact : (bytes : List ℕ) (o : Outcome) → Faithful bytes o → Exact bytes (judged o.fault o.entries (length bytes))

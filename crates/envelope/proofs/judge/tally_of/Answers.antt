@@ -5,8 +5,4 @@ pub loop-record-preserved : goal.loop-record-preserved
 loop-record-preserved c =
     let told = c.in_ok-record.ensures in
     let old = c.loop-record.invariant in
-    record {
-      entries = _;
-      sofar = one_more old.sofar _ _ _ _ c.in-Some.is told.answers told.place told.rest;
-      tallies = c.add.ensures old.entries old.tallies;
-    }
+    (_, one_more old.1 _ _ _ _ c.in-Some.is told.answers told.place told.rest, c.add.ensures old.0 old.2)
