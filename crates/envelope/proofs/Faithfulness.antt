@@ -59,9 +59,9 @@ first place b bytes rest = go (kind_of b) refl
         ⊎_elim
         (λ less. rw (lt-ltb (length bytes) (body_length k) less) (refused place b bytes BodyCutShort (inr (refl, (k, is, less)))))
         (λ long.
-          let size : length body ≡ body_length k = length-take-le (body_length k) bytes long in
-          rw (le-ltb (length bytes) (body_length k) long)
-          (whole place (b ∷ bytes) (record { place = place; kind = k; body = body }) (drop (length body) bytes) _ (rw (is, size, take-append-drop (body_length k) bytes) refl) refl size (rest _ _ (omega (arith, length-drop (length body) bytes)))))
+        let size : length body ≡ body_length k = length-take-le (body_length k) bytes long in
+        rw (le-ltb (length bytes) (body_length k) long)
+        (whole place (b ∷ bytes) (record { place = place; kind = k; body = body }) (drop (length body) bytes) _ (rw (is, size, take-append-drop (body_length k) bytes) refl) refl size (rest _ _ (omega (arith, length-drop (length body) bytes)))))
         (cases_lt (length bytes) (body_length k))
 
 from : (n place : ℕ) (bytes : List ℕ) → length bytes ≤ n → From place bytes (reading_from place bytes)
