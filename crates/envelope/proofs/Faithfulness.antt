@@ -48,10 +48,10 @@ whole place bytes e left o is at size next =
     }
 
 first : (place b : ℕ) (bytes : List ℕ) → ((p : ℕ) (left : List ℕ) → length left ≤ length bytes → From p left (reading_from p left))
-    → From place (b ∷ bytes) (onward (next_at place (b ∷ bytes)) place (b ∷ bytes))
+    → From place (b ∷ bytes) (onward reading_from (next_at place (b ∷ bytes)) place (b ∷ bytes))
 first place b bytes rest = go (kind_of b) refl
   where
-    go : (o : Option Kind) → kind_of b ≡ o → From place (b ∷ bytes) (onward (next_kind place o bytes) place (b ∷ bytes))
+    go : (o : Option Kind) → kind_of b ≡ o → From place (b ∷ bytes) (onward reading_from (next_kind place o bytes) place (b ∷ bytes))
     go None e = refused place b bytes UnknownKind (inl (refl, λ k is. grind (arith, kind_of-kind_byte)))
     go (Some k) e =
         let body : List ℕ = take (body_length k) bytes in

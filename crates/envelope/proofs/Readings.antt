@@ -6,9 +6,13 @@ use Rattle.envelope.specs.Entries.{Entry, entry}
 use Rattle.std.proofs.lemmas.Grind.{common_steps}
 use Rattle.envelope.specs.Reading.{Next, Outcome, next_at, taken, continued, reading_within, reading_from, answered}
 
+-- an answer, and what is read after it
+abbrev pub onward : (ℕ → List ℕ → Outcome) → Next → ℕ → List ℕ → Outcome
+onward read x place bytes = continued x (read (place + taken x) (drop (taken x) bytes))
+
 -- after a step fewer bytes are left, so two ways to read on are one if they agree there
 after_step : (x : Next) (place b : ℕ) (bytes : List ℕ) (F G : ℕ → List ℕ → Outcome) → ((p : ℕ) (left : List ℕ) → length left ≤ length bytes → F p left ≡ G p left)
-    → continued x (F (place + taken x) (drop (taken x) (b ∷ bytes))) ≡ continued x (G (place + taken x) (drop (taken x) (b ∷ bytes)))
+    → onward F x place (b ∷ bytes) ≡ onward G x place (b ∷ bytes)
 after_step (Ok (Some e)) place b bytes F G same =
     ap (continued (Ok (Some e))) (same _ _ (omega (arith, length-drop (length e.body) bytes)))
 after_step x place b bytes F G same = refl
@@ -22,12 +26,8 @@ enough (suc m) zero place [] lm ln = refl
 enough m n place (b ∷ bytes) lm ln = absurd (omega arith)
 enough m n place [] lm ln = refl
 
--- an answer, and what is read after it
-abbrev pub onward : Next → ℕ → List ℕ → Outcome
-onward x place bytes = continued x (reading_from (place + taken x) (drop (taken x) bytes))
-
 -- a reading is its first step and the reading of what is left
-pub step : (place : ℕ) (bytes : List ℕ) → reading_from place bytes ≡ onward (next_at place bytes) place bytes
+pub step : (place : ℕ) (bytes : List ℕ) → reading_from place bytes ≡ onward reading_from (next_at place bytes) place bytes
 step place [] = refl
 step place (b ∷ bytes) =
     after_step (next_at place (b ∷ bytes)) place b bytes (reading_within (length bytes)) reading_from (λ p left h. enough (length bytes) (length left) p left h (omega arith))
@@ -39,7 +39,7 @@ pub record Sofar (all : Outcome) (es : List Entry) (place : ℕ) (left : List �
 
 module _ {all : Outcome} {es : List Entry} {place : ℕ} {left : List ℕ} (before : Sofar all es place left) where
   -- the next step of the reading
-  on : (x : Next) → x ≡ next_at place left → (all.entries ≡ es ++ (onward x place left).entries) × (all.fault ≡ (onward x place left).fault)
+  on : (x : Next) → x ≡ next_at place left → (all.entries ≡ es ++ (onward reading_from x place left).entries) × (all.fault ≡ (onward reading_from x place left).fault)
   on x is = rw is (rw (← step place left) (before.entries, before.fault))
 
   pub ended : Ok None ≡ next_at place left → all ≡ record { entries = es; fault = None }

@@ -12,7 +12,7 @@ use Rattle.envelope.specs.Reading.{next_at, Next}
 
 -- the kind of a byte, as `?` lets it through
 pub known_from : (o : Option Kind) (k : Kind) {r : Result Kind Refusal} → r ≡ ok_or o UnknownKind → MatchResult r (λ x. ◌≡◌ {A = Result Kind Fault} (Ok k) (Ok x)) (λ e. ⊥) → o ≡ Some k
-known_from o k is through = let through = rw is at through in grind arith
+known_from o k is through = grind arith
 
 -- a record of kind k stands first, if its body is as long as that takes
 pub found : (place : ℕ) (all : List ℕ) (k : Kind) → kind_of (get_or all 0 0) ≡ Some k → body_length k ≤ length (drop 1 all)
