@@ -1,89 +1,56 @@
 -- Readings step by step, as a loop over `next` takes them. Assumes nothing.
-use Rattle.std.proofs.Common.{◌≡◌, ℕ, zero, suc, ◌+◌, ◌<◌, ◌≤◌, List, [], ◌∷◌, ◌++◌, map, length, drop, Some, None, Ok, Err, Option, sym, refl, ap, ◌∙◌, append_assoc, append-nil, arith, length-drop}
-use Rattle.std.proofs.lemmas.List.{map_push}
+use Rattle.std.proofs.Common.{◌≡◌, ℕ, zero, suc, ◌+◌, ◌≤◌, List, [], ◌∷◌, ◌++◌, length, drop, Some, None, Ok, Err, Option, refl, ap, arith, length-drop}
 use Rattle.fault.specs.Numbers.{Told}
 use Rattle.envelope.specs.declared.record.Record.{Record}
-use Rattle.envelope.specs.Entries.{Entry, entry, written}
+use Rattle.envelope.specs.Entries.{Entry, entry}
+use Rattle.std.proofs.lemmas.Grind.{common_steps}
 use Rattle.envelope.specs.Reading.{Next, Outcome, next_at, taken, continued, reading_within, reading_from, answered}
+
+-- an answer, and what is read after it
+abbrev pub onward : (ℕ → List ℕ → Outcome) → Next → ℕ → List ℕ → Outcome
+onward read x place bytes = continued x (read (place + taken x) (drop (taken x) bytes))
 
 -- after a step fewer bytes are left, so two ways to read on are one if they agree there
 after_step : (x : Next) (place b : ℕ) (bytes : List ℕ) (F G : ℕ → List ℕ → Outcome) → ((p : ℕ) (left : List ℕ) → length left ≤ length bytes → F p left ≡ G p left)
-    → continued x (F (place + taken x) (drop (taken x) (b ∷ bytes))) ≡ continued x (G (place + taken x) (drop (taken x) (b ∷ bytes)))
+    → onward F x place (b ∷ bytes) ≡ onward G x place (b ∷ bytes)
 after_step (Ok (Some e)) place b bytes F G same =
     ap (continued (Ok (Some e))) (same _ _ (omega (arith, length-drop (length e.body) bytes)))
-after_step (Ok None) place b bytes F G same = refl
-after_step (Err f) place b bytes F G same = refl
+after_step x place b bytes F G same = refl
 
 -- the same is read in any number of turns that is enough
 enough : (m n place : ℕ) (bytes : List ℕ) → length bytes ≤ m → length bytes ≤ n → reading_within m place bytes ≡ reading_within n place bytes
 enough zero zero place bytes lm ln = refl
-enough zero (suc n) place [] lm ln = refl
-enough zero (suc n) place (b ∷ bytes) lm ln = absurd (omega arith)
-enough (suc m) zero place [] lm ln = refl
-enough (suc m) zero place (b ∷ bytes) lm ln = absurd (omega arith)
-enough (suc m) (suc n) place [] lm ln = refl
 enough (suc m) (suc n) place (b ∷ bytes) lm ln =
     after_step (next_at place (b ∷ bytes)) place b bytes (reading_within m) (reading_within n) (λ p left h. enough m n p left (omega arith) (omega arith))
+enough (suc m) zero place [] lm ln = refl
+enough m n place (b ∷ bytes) lm ln = absurd (omega arith)
+enough m n place [] lm ln = refl
 
 -- a reading is its first step and the reading of what is left
-pub step : (place : ℕ) (bytes : List ℕ) → reading_from place bytes ≡ continued (next_at place bytes) (reading_from (place + taken (next_at place bytes)) (drop (taken (next_at place bytes)) bytes))
+pub step : (place : ℕ) (bytes : List ℕ) → reading_from place bytes ≡ onward reading_from (next_at place bytes) place bytes
 step place [] = refl
 step place (b ∷ bytes) =
     after_step (next_at place (b ∷ bytes)) place b bytes (reading_within (length bytes)) reading_from (λ p left h. enough (length bytes) (length left) p left h (omega arith))
 
--- records before what is read after them
-abbrev pub preceded : List Entry → Outcome → Outcome
-preceded es o = record { entries = es ++ o.entries; fault = o.fault }
-
 -- the reading all is the records es, and what is read from a place on, where left are the bytes
 pub record Sofar (all : Outcome) (es : List Entry) (place : ℕ) (left : List ℕ) : Type 0 where
-  pub is : all ≡ preceded es (reading_from place left)
+  pub entries : all.entries ≡ es ++ (reading_from place left).entries
+  pub fault : all.fault ≡ (reading_from place left).fault
 
-pub begun : (es : List Entry) (place : ℕ) (left : List ℕ) → es ≡ [] → Sofar (reading_from place left) es place left
-begun es place left none = record { is = ap (λ xs. preceded xs (reading_from place left)) (sym none) }
+module _ {all : Outcome} {es : List Entry} {place : ℕ} {left : List ℕ} (before : Sofar all es place left) where
+  -- the next step of the reading
+  on : (x : Next) → x ≡ next_at place left → (all.entries ≡ es ++ (onward reading_from x place left).entries) × (all.fault ≡ (onward reading_from x place left).fault)
+  on x is = rw is (rw (← step place left) (before.entries, before.fault))
 
--- the next step of the reading
-then_on : {all : Outcome} {es : List Entry} {place : ℕ} {left : List ℕ} → Sofar all es place left → (x : Next) → x ≡ next_at place left
-    → all ≡ preceded es (continued x (reading_from (place + taken x) (drop (taken x) left)))
-then_on {all} {es} {place} {left} before x e =
-    before.is ∙ ap (preceded es) (step place left) ∙ ap (λ y. preceded es (continued y (reading_from (place + taken y) (drop (taken y) left)))) (sym e)
+  pub ended : Ok None ≡ next_at place left → all ≡ record { entries = es; fault = None }
+  ended is = let last = on (Ok None) is in grind (arith, common_steps)
 
-pub ended : {all : Outcome} {es : List Entry} {place : ℕ} {left : List ℕ} → Sofar all es place left → Ok None ≡ next_at place left → all ≡ record { entries = es; fault = None }
-ended {all} {es} before found = then_on before (Ok None) found ∙ ap (λ xs. record { entries = xs; fault = None }) (append-nil es)
+  pub stopped : (f : Told) → Err f ≡ next_at place left → all ≡ record { entries = es; fault = Some f }
+  stopped f is = let last = on (Err f) is in grind (arith, common_steps)
 
-pub stopped : {all : Outcome} {es : List Entry} {place : ℕ} {left : List ℕ} → Sofar all es place left → (f : Told) → Err f ≡ next_at place left → all ≡ record { entries = es; fault = Some f }
-stopped {all} {es} before f found = then_on before (Err f) found ∙ ap (λ xs. record { entries = xs; fault = Some f }) (append-nil es)
-
--- the record e stands at a place, and rest are the bytes after it
-pub record Took (place : ℕ) (left : List ℕ) (e : Entry) (next : ℕ) (rest : List ℕ) : Type 0 where
-  pub found : Ok (Some e) ≡ next_at place left
-  pub at : next ≡ place + length (written e)
-  pub after : rest ≡ drop (length (written e)) left
-
--- a record more at the end of a list of them
-pub pushed : (rs more : List Record) (r : Record) → more ≡ rs ++ r ∷ [] → map entry more ≡ map entry rs ++ entry r ∷ []
-pushed rs more r grown = ap (map entry) grown ∙ map_push entry rs r
-
--- as `next` promises it
-pub took : {place next : ℕ} {left rest : List ℕ} (o : Option Record) (r : Record) → o ≡ Some r → answered (Ok o) ≡ next_at place left → next ≡ place + taken (answered (Ok o)) → rest ≡ drop (taken (answered (Ok o))) left
-    → Took place left (entry r) next rest
-took o r is answers at after = record { found = rw is at answers; at = rw is at at; after = rw is at after }
-
-module _ {place next : ℕ} {left rest : List ℕ} {e : Entry} (one : Took place left e next rest) where
-  -- a record has at least its kind byte
-  pub shorter : length rest < length left
-  shorter = rw one.after (go left one.found)
-    where
-      go : (bs : List ℕ) → Ok (Some e) ≡ next_at place bs → length (drop (length (written e)) bs) < length bs
-      go [] found = absurd (grind arith)
-      go (b ∷ bs) found = omega (arith, length-drop (length e.body) bs)
-
-  pub one_more : {all : Outcome} {es more : List Entry} → Sofar all es place left → more ≡ es ++ e ∷ [] → Sofar all more next rest
-  one_more {all} {es} {more} before grown =
-      let on : Outcome = reading_from (place + length (written e)) (drop (length (written e)) left) in
-      record {
-        is =
-            then_on before (Ok (Some e)) one.found
-            ∙ ap (λ xs. record { entries = xs; fault = on.fault }) (sym (append_assoc es (e ∷ []) on.entries))
-            ∙ (λ i. preceded (sym grown i) (reading_from (sym one.at i) (sym one.after i)));
-      }
+  -- a record more, as `next` gives it
+  pub one_more : (o : Option Record) (r : Record) (next : ℕ) (rest : List ℕ) → o ≡ Some r → answered (Ok o) ≡ next_at place left → next ≡ place + taken (answered (Ok o)) → rest ≡ drop (taken (answered (Ok o))) left
+      → Sofar all (es ++ entry r ∷ []) next rest
+  one_more o r next rest some is at after =
+      let more = on (Ok (Some (entry r))) (rw some at is) in
+      rw (rw some at at, rw some at after) (record { entries = grind (arith, common_steps); fault = more.1 })

@@ -1,27 +1,15 @@
 -- Laws of feeding.
 use Rattle.std.specs.Prelude.{◌≡◌, ℕ, suc, List, ◌++◌, length, take, drop}
-use Rattle.std.proofs.Common.{ap, ◌∙◌, sym, append_assoc, take-append-drop}
+use Rattle.std.proofs.Common.{append_assoc, take-append-drop}
 use Rattle.std.proofs.Math.Path.{fun_ext}
 use Rattle.std.proofs.lemmas.List.{drop_at, take_at}
 use Rattle.hash.specs.Blocks.{absorbed}
-use Rattle.hash.specs.Rows.{after, holding}
-
-pub after-append : {X : Type 0} (x y : List ℕ) (rule : List ℕ → X) → after (x ++ y) rule ≡ after y (after x rule)
-after-append x y rule = fun_ext (λ more. ap rule (append_assoc x y more))
-
--- a buffer of which the first n bytes are those that were held and then some more
-pub holding_more : {X : Type 0} (old new more : List ℕ) (count n : ℕ) (rule : List ℕ → X) → take n new ≡ take count old ++ more → holding new n rule ≡ after more (holding old count rule)
-holding_more old new more count n rule e = ap (λ front. after front rule) e ∙ after-append (take count old) more rule
+use Rattle.hash.specs.Rows.{after}
 
 -- what was cut in two and fed in two pieces
 pub after_halves : {X : Type 0} (n : ℕ) (whole front back : List ℕ) (rule : List ℕ → X) → front ≡ take n whole → back ≡ drop n whole → after back (after front rule) ≡ after whole rule
-after_halves n whole front back rule f b =
-    sym (after-append front back rule) ∙ ap (λ l. after l rule) (simp (f, b) (take-append-drop n whole))
-
--- nothing is held
-pub holding_none : {X : Type 0} (buffer : List ℕ) (count : ℕ) (rule : List ℕ → X) → count ≡ 0 → holding buffer count rule ≡ rule
-holding_none buffer count rule e = ap (λ n. holding buffer n rule) e
+after_halves n whole front back rule f b = fun_ext (λ more. rw (f, b, ← append_assoc, take-append-drop))
 
 -- bytes that begin with a whole block
 pub absorbed_block : {S : Type 0} (f : S → List ℕ → S) (size n : ℕ) (s : S) (block bytes : List ℕ) → length block ≡ size → absorbed f size (suc n) s (block ++ bytes) ≡ absorbed f size n (f s block) bytes
-absorbed_block f size n s block bytes h = rw (take_at block bytes size h, drop_at block bytes size h)
+absorbed_block f size n s block bytes h = simp (take_at, drop_at, h)

@@ -1,8 +1,6 @@
-pub mod Chunks
+pub mod Lists
 pub mod Feeding
 pub mod Reading
-pub mod Words
-pub mod Rounds
 pub mod Sponges
 pub mod ShaLaws
 pub mod BitLaws

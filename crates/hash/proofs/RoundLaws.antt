@@ -1,33 +1,19 @@
 -- Rounds with the sums of their constants and words, and rounds one part after the other.
-use Rattle.std.proofs.Common.{◌≡◌, ℕ, ◌≤◌, List, [], ◌∷◌, ◌++◌, length, get_or, drop, replicate, refl, ap, ◌∙◌, arith}
+use Rattle.std.proofs.Common.{◌≡◌, ℕ, ◌≤◌, List, [], ◌∷◌, ◌++◌, length, get_or, drop, refl, arith}
 use lib.Lanes.{zip2}
-use Rattle.hash.proofs.Words.{written_out}
-use Rattle.hash.specs.Sha256.{◌⊞◌, Σ₁, T₁, Working, ch, round, rounds}
+use Rattle.std.proofs.lemmas.Simd.{pick_l_whole}
+use Rattle.hash.specs.Sha256.{◌⊞◌, T₁, Working, round, rounds}
 
--- the sum T₁ in the order of the code, where k is the constant and the word in one
-pub round_order : (h k c s : ℕ) → h ⊞ k ⊞ c ⊞ s ≡ h ⊞ s ⊞ c ⊞ k ⊞ 0
-round_order h k c s = omega arith
-
-sum_last : (x k w : ℕ) → x ⊞ k ⊞ w ≡ x ⊞ (w ⊞ k) ⊞ 0
-sum_last x k w = omega arith
-
-round_sum : (k w : ℕ) (v : Working) → round k w v ≡ round (w ⊞ k) 0 v
+round_sum : (k w : ℕ) (v : Working) → round (w ⊞ k) 0 v ≡ round k w v
 unfolding round
 round_sum k w v =
-    let e : T₁ k w v ≡ T₁ (w ⊞ k) 0 v = sum_last (v.h ⊞ Σ₁ v.e ⊞ ch v.e v.f v.g) k w in rw e
-
-rounds_sums : (ks ws : List ℕ) (v : Working) → rounds ks ws v ≡ rounds (zip2 ◌⊞◌ ws ks) (replicate (length ks) 0) v
-unfolding rounds
-rounds_sums [] [] v = refl
-rounds_sums [] (w ∷ ws) v = refl
-rounds_sums (k ∷ ks) [] v = refl
-rounds_sums (k ∷ ks) (w ∷ ws) v = ap (rounds ks ws) (round_sum k w v) ∙ rounds_sums ks ws (round (w ⊞ k) 0 v)
+    let e : T₁ (w ⊞ k) 0 v ≡ T₁ k w v = omega arith in rw e
 
 -- four rounds with sums, written out
 pub four_sums : (k w : List ℕ) (v : Working) → length k ≡ 4 → length w ≡ 4
     → round (get_or (zip2 ◌⊞◌ w k) 3 0) 0 (round (get_or (zip2 ◌⊞◌ w k) 2 0) 0 (round (get_or (zip2 ◌⊞◌ w k) 1 0) 0 (round (get_or (zip2 ◌⊞◌ w k) 0 0) 0 v))) ≡ rounds k w v
 unfolding rounds
-four_sums k w v h l = rw (rounds_sums k w v, written_out 4 k h, written_out 4 w l)
+four_sums k w v h l = rw (← pick_l_whole 0 k 4 h, ← pick_l_whole 0 w 4 l) (simp round_sum)
 
 pub rounds-append : (ks ls ws : List ℕ) (v : Working) → length ks ≤ length ws
     → rounds (ks ++ ls) ws v ≡ rounds ls (drop (length ks) ws) (rounds ks ws v)

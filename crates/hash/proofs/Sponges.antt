@@ -1,15 +1,14 @@
 -- Laws of the sponge: one block more, the last block, and the bytes that come out.
-use Rattle.std.specs.Prelude.{◌≡◌, ℕ, zero, suc, ◌+◌, ◌-◌, ◌/◌, ◌%◌, ◌<◌, List, [], ◌∷◌, ◌++◌, length, drop, replicate, bit_xor, slice_index, slice_set, refl}
-use Rattle.std.proofs.Common.{ap, sym, ◌∙◌, add-one, arith}
-use Rattle.std.proofs.lemmas.List.{append_assoc, append-nil, drop-replicate, get_or_at, length-append, length-replicate, replicate_more, set_at}
+use Rattle.std.specs.Prelude.{◌≡◌, ℕ, zero, suc, ◌+◌, ◌-◌, ◌/◌, ◌%◌, ◌<◌, ◌≤◌, List, [], ◌∷◌, ◌++◌, length, replicate, bit_xor, slice_index, slice_set, refl}
+use Rattle.std.proofs.Common.{add-one, arith}
+use Rattle.std.proofs.lemmas.List.{append_assoc, get_or_at, length-append, length-replicate, replicate_more, set_at, take_all}
 use Rattle.hash.proofs.Feeding.{absorbed_block}
-use Rattle.hash.specs.Blocks.{absorbed}
 use Rattle.hash.specs.Keccak.{Lanes, permuted}
 use Rattle.hash.specs.Shake128.{absorb, pad, mixed, padding, sponge}
 
 length-pad : (n : ℕ) → length (pad n) ≡ suc n
 length-pad zero = refl
-length-pad (suc n) = ap suc (length-append (replicate n 0) (0x80 ∷ []) ∙ simp length-replicate (add-one n))
+length-pad (suc n) = simp (length-append, length-replicate, add-one)
 
 -- a message that begins with a whole block
 pub sponge_block : (A : Lanes) (b m : List ℕ) → length b ≡ 168 → sponge A (b ++ m) ≡ sponge (absorb A b) m
@@ -17,37 +16,23 @@ unfolding sponge
 sponge_block A b m h =
     let count : length (b ++ m) / 168 + 1 ≡ suc (length m / 168 + 1) = omega (arith, length-append b m) in
     let rest : length (b ++ m) % 168 ≡ length m % 168 = omega (arith, length-append b m) in
-    let bytes = ap (λ r. (b ++ m) ++ pad (167 - r)) rest ∙ append_assoc b m (padding (length m)) in
-    ap (λ n. absorbed absorb 168 n A ((b ++ m) ++ padding (length (b ++ m)))) count
-    ∙ ap (absorbed absorb 168 (suc (length m / 168 + 1)) A) bytes
-    ∙ absorbed_block absorb 168 (length m / 168 + 1) A b (m ++ padding (length m)) h
+    rw (count, rest, append_assoc) (absorbed_block absorb 168 (length m / 168 + 1) A b (m ++ padding (length m)) h)
 
 -- a message of less than a block
 pub sponge_last : (A : Lanes) (m : List ℕ) → length m < 168 → sponge A m ≡ permuted (mixed A (m ++ padding (length m)))
 unfolding sponge
 sponge_last A m h =
-    let one : length m / 168 + 1 ≡ suc 0 = omega arith in
+    let one : length m / 168 + 1 ≡ 1 = omega arith in
     let same : length m % 168 ≡ length m = omega arith in
-    let long : length (m ++ padding (length m)) ≡ 168 = length-append m (padding (length m)) ∙ simp (length-pad, same) (omega arith) in
-    let block = m ++ padding (length m) in
-    ap (λ n. absorbed absorb 168 n A block) one
-    ∙ ap (absorbed absorb 168 1 A) (sym (append-nil block))
-    ∙ absorbed_block absorb 168 0 A block [] long
+    let long : length (m ++ pad (167 - length m)) ≤ 168 = simp (length-append, length-pad) (omega arith) in
+    rw (one, same, take_all 168 (m ++ pad (167 - length m)) long)
 
 -- what the code leaves in the last block
 pub padded_is : (m : List ℕ) (n : ℕ) → length m + n ≡ 167 → (let block = m ++ 0x1F ∷ replicate n 0 in slice_set block 167 (bit_xor (slice_index block 167) 0x80) ≡ m ++ pad n)
 padded_is m zero h =
-    let e : length m ≡ 167 = omega arith in
-    rw (get_or_at m 0x1F [] 0 167 e, set_at m 0x1F [] 0x9F 167 e)
+    let e : length m ≡ 167 = omega arith in rw (get_or_at m 0x1F [] 0 167 e, set_at m 0x1F [] 0x9F 167 e)
 padded_is m (suc n) h =
     let front = m ++ 0x1F ∷ replicate n 0 in
-    let e : length front ≡ 167 = length-append m (0x1F ∷ replicate n 0) ∙ simp length-replicate (omega arith) in
-    let zeros : replicate (suc n) 0 ≡ replicate n 0 ++ 0 ∷ [] = sym (replicate_more {X = ℕ} n 0 ∙ ap (λ k. replicate k 0) (add-one n)) in
-    let block = ap (λ l. m ++ 0x1F ∷ l) zeros ∙ sym (append_assoc m (0x1F ∷ replicate n 0) (0 ∷ [])) in
-    rw (block, get_or_at front 0 [] 0 167 e, set_at front 0 [] 0x80 167 e) (append_assoc m (0x1F ∷ replicate n 0) (0x80 ∷ []))
-
--- held bytes put into a block of zeros, and a mark behind them
-pub marked_block : (n mark k : ℕ) (held front : List ℕ) → front ≡ held → k ≡ length held → length held < n → slice_set (front ++ drop k (replicate n 0)) (length held) mark ≡ held ++ mark ∷ replicate (n - 1 - length held) 0
-marked_block n mark k held front e f h =
-    let left : n - length held ≡ suc (n - 1 - length held) = omega arith in
-    rw (e, f, drop-replicate {X = ℕ} (length held) n 0, left) (set_at held 0 (replicate (n - 1 - length held) 0) mark (length held) refl)
+    let e : length front ≡ 167 = simp (length-append, length-replicate) (omega arith) in
+    let block : m ++ 0x1F ∷ replicate (suc n) 0 ≡ front ++ 0 ∷ [] = simp (append_assoc, replicate_more, add-one) in
+    rw (block, get_or_at front 0 [] 0 167 e, set_at front 0 [] 0x80 167 e, append_assoc)

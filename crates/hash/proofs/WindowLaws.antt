@@ -1,8 +1,8 @@
 -- The rounds with a window, which moves four words at a time, are the rounds over the whole schedule.
-use Rattle.std.proofs.Common.{◌≡◌, ℕ, zero, suc, ◌+◌, ◌-◌, ◌≤◌, List, [], ◌∷◌, ◌++◌, map, length, take, drop, replicate, sym, refl, ap, ◌∙◌, suc-add, zero-add, arith, take-add}
+use Rattle.std.proofs.Common.{◌≡◌, ℕ, zero, suc, ◌+◌, ◌-◌, ◌≤◌, List, [], ◌∷◌, ◌++◌, map, length, take, drop, replicate, sym, refl, ◌∙◌, suc-add, zero-add, arith, length-drop, length-take, take-add}
 use lib.Lanes.{pick_l, zip2}
-use Rattle.std.proofs.lemmas.List.{append_assoc, drop_at, drop-drop, length_push, length-take-le, take_all}
-use Rattle.hash.proofs.Words.{written_out}
+use Rattle.std.proofs.lemmas.List.{append_assoc, drop-append-le, drop_at, drop-drop, get_or-drop, length_push, take_all}
+use Rattle.std.proofs.lemmas.Simd.{pick_l_whole}
 use Rattle.hash.proofs.RoundLaws.{rounds-append, rounds_longer}
 use Rattle.hash.specs.Sha256.{◌⊞◌, σ₀, σ₁, Working, back, constants, next, rounds, schedule}
 
@@ -11,10 +11,6 @@ unfolding constants
 length-constants = refl
 
 -- The next four words, as the code finds them.
-
--- the sum of a word in the order of the code
-word_order : (a b c d : ℕ) → a ⊞ b ⊞ c ⊞ d ≡ d ⊞ c ⊞ b ⊞ a
-word_order a b c d = omega arith
 
 sum_zero : (a b : ℕ) → a ⊞ b ⊞ 0 ≡ a ⊞ b
 sum_zero a b = omega arith
@@ -41,51 +37,42 @@ module _ (x₀ x₁ x₂ x₃ x₄ x₅ x₆ x₇ x₈ x₉ x₁₀ x₁₁ x₁
       let n₁ = x₁ ⊞ σ₀ x₂ ⊞ x₁₀ ⊞ σ₁ x₁₅ in
       let n₂ = x₂ ⊞ σ₀ x₃ ⊞ x₁₁ ⊞ σ₁ n₀ in
       let n₃ = x₃ ⊞ σ₀ x₄ ⊞ x₁₂ ⊞ σ₁ n₁ in
-      rw (sum_zero (x₀ ⊞ σ₀ x₁ ⊞ x₉) (σ₁ x₁₄), sum_zero (x₁ ⊞ σ₀ x₂ ⊞ x₁₀) (σ₁ x₁₅), sum_zero (x₂ ⊞ σ₀ x₃) x₁₁, sum_zero (x₃ ⊞ σ₀ x₄) x₁₂)
-      (schedule_four _ n₀ n₁ n₂ n₃ (word_order x₀ (σ₀ x₁) x₉ (σ₁ x₁₄)) (word_order x₁ (σ₀ x₂) x₁₀ (σ₁ x₁₅)) (word_order x₂ (σ₀ x₃) x₁₁ (σ₁ n₀)) (word_order x₃ (σ₀ x₄) x₁₂ (σ₁ n₁)))
+      simp sum_zero (schedule_four _ n₀ n₁ n₂ n₃ (omega arith) (omega arith) (omega arith) (omega arith))
 
 pub following_is : (a b c d : List ℕ) → length a ≡ 4 → length b ≡ 4 → length c ≡ 4 → length d ≡ 4
     → (a ++ (b ++ (c ++ d))) ++ following a b c d ≡ schedule 4 (a ++ (b ++ (c ++ d)))
 following_is a b c d k l m n =
-    rw (written_out 4 a k, written_out 4 b l, written_out 4 c m, written_out 4 d n) (following_words _ _ _ _ _ _ _ _ _ _ _ _ _ _ _ _)
+    rw (← pick_l_whole 0 a 4 k, ← pick_l_whole 0 b 4 l, ← pick_l_whole 0 c 4 m, ← pick_l_whole 0 d 4 n) (following_words _ _ _ _ _ _ _ _ _ _ _ _ _ _ _ _)
 
 -- the window after the next four words are pushed
 pub pushed : (a b c d e : List ℕ) → length a ≡ 4 → b ++ (c ++ (d ++ e)) ≡ drop 4 ((a ++ (b ++ (c ++ d))) ++ e)
-pushed a b c d e h = rw (append_assoc a (b ++ (c ++ d)) e, drop_at a _ 4 h) (simp append_assoc)
+pushed a b c d e h = simp (append_assoc, drop_at a (b ++ (c ++ (d ++ e))) 4 h)
 
 -- The schedule in parts.
 
 length-schedule : (n : ℕ) (w : List ℕ) → length (schedule n w) ≡ length w + n
 unfolding schedule
 length-schedule zero w = omega arith
-length-schedule (suc n) w = omega (arith, length-schedule n (w ++ next w ∷ []), length_push w (next w))
+length-schedule (suc n) w = omega (arith, length-schedule n (w ++ next w ∷ []), length_push {X = ℕ})
 
 schedule-add : (n m : ℕ) (w : List ℕ) → schedule (n + m) w ≡ schedule m (schedule n w)
 unfolding schedule
 schedule-add zero m w = rw (zero-add m)
 schedule-add (suc n) m w = rw (suc-add n m) (schedule-add n m (w ++ next w ∷ []))
 
--- a word more in front changes nothing of what follows
-back-cons : (n x : ℕ) (w : List ℕ) → 1 ≤ n → n ≤ length w → back n (x ∷ w) ≡ back n w
-back-cons n x w p h =
-    let e : suc (length w) - n ≡ suc (length w - n) = omega arith in rw e
+-- words left out in front change nothing of what follows
+back-drop : (n m : ℕ) (w : List ℕ) → n + m ≤ length w → back n (drop m w) ≡ back n w
+back-drop n m w h = let e : m + (length w - m - n) ≡ length w - n = omega arith in rw (length-drop, get_or-drop, e)
 
-next-cons : (x : ℕ) (w : List ℕ) → 16 ≤ length w → next (x ∷ w) ≡ next w
-next-cons x w h =
-    cc (back-cons 2 x w (omega arith) (omega arith), back-cons 7 x w (omega arith) (omega arith), back-cons 15 x w (omega arith) (omega arith), back-cons 16 x w (omega arith) h)
-
-schedule-cons : (n x : ℕ) (w : List ℕ) → 16 ≤ length w → schedule n (x ∷ w) ≡ x ∷ schedule n w
-unfolding schedule
-schedule-cons zero x w h = refl
-schedule-cons (suc n) x w h =
-    ap (λ y. schedule n (x ∷ w ++ y ∷ [])) (next-cons x w h)
-    ∙ schedule-cons n x (w ++ next w ∷ []) (omega (arith, length_push w (next w)))
+next-drop : (m : ℕ) (w : List ℕ) → m + 16 ≤ length w → next (drop m w) ≡ next w
+next-drop m w h =
+    cc (back-drop 2 m w (omega arith), back-drop 7 m w (omega arith), back-drop 15 m w (omega arith), back-drop 16 m w (omega arith))
 
 schedule-drop : (n m : ℕ) (w : List ℕ) → m + 16 ≤ length w → schedule n (drop m w) ≡ drop m (schedule n w)
-schedule-drop n zero w h = refl
-schedule-drop n (suc m) [] h = absurd (omega arith)
-schedule-drop n (suc m) (x ∷ w) h =
-    schedule-drop n m w (omega arith) ∙ ap (drop (suc m)) (sym (schedule-cons n x w (omega arith)))
+unfolding schedule
+schedule-drop zero m w h = refl
+schedule-drop (suc n) m w h =
+    rw (next-drop m w h, ← drop-append-le m w (next w ∷ []) (omega arith)) (schedule-drop n m (w ++ next w ∷ []) (omega (arith, length_push {X = ℕ})))
 
 -- The rounds.
 
@@ -93,23 +80,20 @@ rounds-schedule : (n : ℕ) (ks w : List ℕ) (v : Working) → length ks ≤ le
 unfolding schedule
 rounds-schedule zero ks w v h = refl
 rounds-schedule (suc n) ks w v h =
-    rounds-schedule n ks (w ++ next w ∷ []) v (omega (arith, length_push w (next w))) ∙ rounds_longer ks w (next w ∷ []) v h
+    rounds-schedule n ks (w ++ next w ∷ []) v (omega (arith, length_push {X = ℕ})) ∙ rounds_longer ks w (next w ∷ []) v h
 
 -- four rounds more after n rounds, from the words w
 module _ (w : List ℕ) (n : ℕ) (h : length w ≡ 16) where
   pub window_more : drop 4 (schedule 4 (drop n (schedule n w))) ≡ drop (n + 4) (schedule (n + 4) w)
-  window_more =
-      let e = schedule-drop 4 n (schedule n w) (omega (arith, length-schedule n w)) in
-      rw (e, drop-drop 4 n (schedule 4 (schedule n w)), schedule-add n 4 w)
+  window_more = rw (schedule-drop 4 n (schedule n w) (omega (arith, length-schedule n w)), drop-drop, schedule-add n 4 w)
 
   pub rounds_more : (ks : List ℕ) (v : Working) → n + 4 ≤ length ks
       → rounds (take 4 (drop n ks)) (drop n (schedule n w)) (rounds (take n ks) (schedule n w) v) ≡ rounds (take (n + 4) ks) (schedule (n + 4) w) v
   rounds_more ks v l =
-      let l₁ : length (take n ks) ≡ n = length-take-le n ks (omega arith) in
-      let l₂ : length (take (n + 4) ks) ≡ n + 4 = length-take-le (n + 4) ks l in
-      let a = rounds-append (take n ks) (take 4 (drop n ks)) (schedule n w) v (omega (arith, length-schedule n w)) in
-      let s = rounds-schedule 4 (take (n + 4) ks) (schedule n w) v (omega (arith, length-schedule n w)) in
-      sym (rw (schedule-add n 4 w, s, take-add n 4 ks, a, l₁))
+      let m : length (schedule n w) ≡ 16 + n = omega (arith, length-schedule n w) in
+      let k : length (take n ks) ≡ n = simp length-take (omega arith) in
+      let more : length (take (n + 4) ks) ≤ n + 16 = simp length-take (omega arith) in
+      sym (rw (schedule-add n 4 w, rounds-schedule 4 (take (n + 4) ks) (schedule n w) v (omega arith), take-add n 4 ks, rounds-append (take n ks) (take 4 (drop n ks)) (schedule n w) v (omega arith), k))
 
 -- the last sixteen words are found, and not used
 pub rounds_all : (ks w : List ℕ) (v : Working) → length w ≡ 16 → length ks ≡ 64

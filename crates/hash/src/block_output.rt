@@ -69,12 +69,12 @@ impl<S: Squeeze<SIZE>, const SIZE: usize> BlockOutput<S, SIZE> {
         ensures { Gives (length out.old) (S.Squeeze.row self.old.below) out.new (output_row S.Squeeze.row self.new) }
     {
         // Not by `as_chunks_mut`: of what is written through it a proof knows no element.
-        let mut done = 0;
-        while out.len() - done >= SIZE {
-            out[done..done + SIZE].copy_from_slice(&self.below.squeeze());
-            done += SIZE;
+        let blocks = out.len() / SIZE;
+        for i in 0..blocks {
+            let start = i * SIZE;
+            out[start..start + SIZE].copy_from_slice(&self.below.squeeze());
         }
-        self.finish(&mut out[done..]);
+        self.finish(&mut out[blocks * SIZE..]);
     }
 
     // Gives less than a block, once the held block is used up.

@@ -1,7 +1,6 @@
 // SHAKE128: a sponge over Keccak-f[1600] with blocks of 168 bytes.
 ghost use Rattle.std.specs.Prelude.{◌≡◌, ◌<◌, ◌++◌, length, map, take};
-ghost use Rattle.std.specs.List.{flat_map};
-ghost use Rattle.std.specs.Simd.Lanes.{number_l};
+ghost use Rattle.std.specs.Simd.Lanes.{digits_l, number_l};
 ghost use Rattle.std.proofs.Common.{rules};
 ghost use Rattle.hash.specs.Keccak.{permuted};
 ghost use Rattle.hash.specs.Lanes.{lanes_of};
@@ -28,9 +27,8 @@ fn load(bytes: [u8; 8]) -> u64
 fn load_row(words: [[u8; 8]; 5]) -> Plane
     ensures { result.lanes ≡ map (number_l 256) words }
 {
-    let [a, b, c, d, e] = words;
     Plane {
-        lanes: [load(a), load(b), load(c), load(d), load(e)],
+        lanes: words.map(load),
     }
 }
 
@@ -52,32 +50,25 @@ fn mix(state: State, block: &[u8; RATE]) -> State
     }
 }
 
-// The bytes of a row, the low byte of each lane first.
-fn row_bytes(row: [u64; 5]) -> [[u8; 8]; 5]
-    ensures { flat_map (λ bytes. bytes) result ≡ lane_bytes row }
+// The bytes of a word, the low byte first.
+fn store(word: u64) -> [u8; 8]
+    ensures { result ≡ digits_l 256 8 word }
 {
-    let [a, b, c, d, e] = row;
-    [
-        a.to_le_bytes(),
-        b.to_le_bytes(),
-        c.to_le_bytes(),
-        d.to_le_bytes(),
-        e.to_le_bytes(),
-    ]
+    word.to_le_bytes()
+}
+
+// The bytes of a row, lane by lane.
+fn row_bytes(row: [u64; 5]) -> [[u8; 8]; 5]
+    ensures { result ≡ map (digits_l 256 8) row }
+{
+    row.map(store)
 }
 
 // The first bytes of the state.
 fn front_block(state: State) -> [u8; RATE]
     ensures { result ≡ take 168 (state_bytes (lanes_of state)) }
 {
-    let [a, b, c, d, e] = state.rows();
-    let rows = [
-        row_bytes(a),
-        row_bytes(b),
-        row_bytes(c),
-        row_bytes(d),
-        row_bytes(e),
-    ];
+    let rows = state.rows().map(row_bytes);
     let bytes = rows.as_flattened().as_flattened();
     let mut block = [0; RATE];
     block.copy_from_slice(&bytes[..RATE]);

@@ -1,10 +1,13 @@
-use Rattle.std.proofs.Common.{length}
-use Rattle.envelope.proofs.Judgements.{Counted}
-use Rattle.envelope.specs.Reading.{reading_from}
+use Rattle.std.proofs.Common.{List, length}
+use Rattle.envelope.proofs.Readings.{Sofar}
+use Rattle.envelope.specs.Entries.{Entry}
+use Rattle.envelope.specs.Readers.{remaining}
+use Rattle.envelope.specs.Tallies.{Tallies}
 use Rattle.envelope.proofs.judge.tally_of.Given as goal
 
+-- the tally is that of the records before the reader
 abbrev pub invariant-loop-record : goal.invariant-loop-record
-invariant-loop-record l = Counted (reading_from l.initial.reader.place l.initial.reader.rest.now) l.reader.place l.reader.rest.now l.tally
+invariant-loop-record l = (es : List Entry) × Sofar (remaining l.initial.reader) es l.reader.place l.reader.rest.now × Tallies l.tally es
 
 abbrev pub decreases-loop-record : goal.decreases-loop-record
 decreases-loop-record l = length l.reader.rest.now

@@ -1,12 +1,14 @@
 use Rattle.std.proofs.Common.{sym}
-use Rattle.envelope.proofs.Readings.{pushed, took, one_more, ended, stopped}
+use Rattle.envelope.proofs.Readings.{ended, stopped, one_more}
 use Rattle.envelope.proofs.reading.collect.Goals.{in-Ok-None, in-Err}
 use Rattle.envelope.proofs.reading.collect.Goals as goal
+use Rattle.std.proofs.lemmas.List.{map_push}
+use Rattle.envelope.specs.Entries.{entry}
 
 pub loop-record-preserved : goal.loop-record-preserved
 loop-record-preserved c =
     let told = c.in-Ok-Some.ensures in
-    one_more (took _ _ c.in-Ok-Some.field-0-is told.answers told.place told.rest) c.loop-record.invariant (pushed _ _ _ c.in_ok-push-in-Ok-Some.ensures.items)
+    rw (c.in_ok-push-in-Ok-Some.ensures.items, map_push entry) (one_more c.loop-record.invariant _ _ _ _ c.in-Ok-Some.field-0-is told.answers told.place told.rest)
 
 pub returns : goal.returns
 returns c =

@@ -2,12 +2,9 @@ use Rattle.std.proofs.Common.{◌≡◌, ◌+◌, ◌*◌, ◌/◌, length, get_
 use Rattle.std.specs.Simd.{first_chunks}
 use Rattle.std.proofs.lemmas.List.{drop-drop}
 use Rattle.hash.specs.Rows.{after}
-use Rattle.hash.proofs.Chunks.{chunk_at}
+use Rattle.hash.proofs.Lists.{chunk_at}
 use Rattle.hash.proofs.Feeding.{after_halves}
 use Rattle.hash.proofs.block_input.absorb_whole.Goals as goal
-
-pub as_chunks-requires : goal.as_chunks-requires
-as_chunks-requires g c = let size = g.met.A.Absorb.size in (omega (arith, size.1), size.0)
 
 pub loop-block-preserved : goal.loop-block-preserved
 loop-block-preserved g c =

@@ -1,8 +1,7 @@
-use Rattle.std.proofs.Common.{◌≡◌, length, refl, ◌∙◌, rules}
+use Rattle.std.proofs.Common.{refl, ◌∙◌, rules}
 use Rattle.hash.proofs.ShaLaws.{count_bytes, counted_is}
 use Rattle.hash.proofs.compression.counted.Goals as goal
 
 pub returns : goal.returns
 returns c =
-    let h : length c.args.block ≡ 64 = search rules in
-    counted_is c.args.block c.copy_from_slice.new.self c.args.total h (c.copy_from_slice.ensures.after ∙ c.to_be_bytes.ensures ∙ count_bytes c.args.total _ refl)
+    counted_is c.args.block c.copy_from_slice.new.self c.args.total (search rules) (c.copy_from_slice.ensures.after ∙ c.to_be_bytes.ensures ∙ count_bytes c.args.total _ refl)

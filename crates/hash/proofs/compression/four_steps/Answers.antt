@@ -1,4 +1,4 @@
-use Rattle.std.proofs.Common.{◌≡◌, length, sym, ◌∙◌, arith, rules}
+use Rattle.std.proofs.Common.{sym, ◌∙◌, rules}
 use Rattle.hash.specs.Sha256.{started}
 use Rattle.hash.proofs.RoundLaws.{rounds_longer}
 use Rattle.hash.proofs.compression.four_steps.Goals as goal
@@ -6,6 +6,4 @@ use Rattle.hash.proofs.compression.four_steps.Goals as goal
 pub returns-clause-working : goal.returns-clause-working
 returns-clause-working c =
     let w = c.args.s.window.first in
-    let h : length w ≡ 4 = search rules in
-    let k : length c.args.k ≡ 4 = search rules in
-    c.four_rounds.ensures ∙ sym (rounds_longer c.args.k w _ (started c.args.s.working) (omega arith))
+    c.four_rounds.ensures ∙ sym (rounds_longer c.args.k w _ (started c.args.s.working) (search rules))

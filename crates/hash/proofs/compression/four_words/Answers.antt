@@ -1,6 +1,6 @@
 use Rattle.std.proofs.Common.{[], rules}
 use Rattle.hash.specs.Sha256.{word_at}
-use Rattle.hash.proofs.Words.{mapped}
+use Rattle.hash.proofs.Lists.{mapped}
 use Rattle.hash.proofs.compression.four_words.Goals as goal
 
 pub returns : goal.returns

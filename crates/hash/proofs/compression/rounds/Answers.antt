@@ -2,7 +2,7 @@ use Rattle.std.proofs.Common.{◌≡◌, ◌+◌, ◌*◌, [], length, refl, ari
 use Rattle.std.proofs.lemmas.List.{places}
 use Rattle.hash.specs.Sha256.{constants, rounds, schedule, started}
 use Rattle.hash.specs.Windows.{window_of}
-use Rattle.hash.proofs.Chunks.{chunk_at}
+use Rattle.hash.proofs.Lists.{chunk_at}
 use Rattle.hash.proofs.WindowLaws.{length-constants, rounds_all, rounds_more, window_more}
 use Rattle.hash.proofs.compression.rounds.Goals as goal
 

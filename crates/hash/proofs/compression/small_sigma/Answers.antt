@@ -1,5 +1,5 @@
-use Rattle.hash.proofs.Words.{written_out}
+use Rattle.std.proofs.lemmas.Simd.{pick_l_whole}
 use Rattle.hash.proofs.compression.small_sigma.Goals as goal
 
 pub returns : goal.returns
-returns g c = rw (written_out 4 c.args.x c.fits-x.0)
+returns g c = rw (← pick_l_whole 0 c.args.x 4 c.fits-x.0)

@@ -1,11 +1,12 @@
-use Rattle.std.proofs.Common.{◌≡◌, ℕ, ◌+◌, ◌*◌, ◌/◌, ◌<◌, List, [], ◌∷◌, map, length, get_or, take, drop, refl, ap, ◌∙◌, arith, rules}
+use Rattle.std.proofs.Common.{◌≡◌, ℕ, ◌+◌, ◌*◌, ◌/◌, ◌<◌, List, [], ◌∷◌, map, length, get_or, take, drop, refl, sym, ap, ◌∙◌, arith, rules}
 use lib.Bits.{bit_xor}
 use lib.Lanes.{number_l}
 use Rattle.std.specs.Simd.{first_chunks}
 use Rattle.std.proofs.lemmas.List.{drop_all, get_or-drop}
+use Rattle.std.proofs.lemmas.Simd.{pick_l-range_with_len}
 use Rattle.hash.specs.Keccak.{five}
 use Rattle.hash.specs.Shake128.{word}
-use Rattle.hash.proofs.Chunks.{chunk_at, chunk_elements}
+use Rattle.hash.proofs.Lists.{chunk_at}
 use Rattle.hash.proofs.shake128.mix.Goals as goal
 
 -- the sum of two rows
@@ -21,9 +22,8 @@ module _ (block : List ℕ) (words : List (List ℕ)) (w : words ≡ first_chunk
 
   row_at : (rows : List (List (List ℕ))) (y : ℕ) → length words ≡ 21 → rows ≡ first_chunks 5 4 words → y < 4 → map (number_l 256) (get_or rows y []) ≡ five (λ x. word block (5 * y + x))
   row_at rows y long r h =
-      let at : (x : ℕ) → x < 5 → number_l 256 (get_or words (y * 5 + x) []) ≡ word block (5 * y + x) = λ x l. word_at (y * 5 + x) (5 * y + x) (omega arith) (omega arith) in
-      ap (map (number_l 256)) (ap (λ l. get_or l y []) r ∙ chunk_at 5 4 y words [] h ∙ chunk_elements 5 (y * 5) words [] (omega arith))
-      ∙ cc (at 0 (omega arith), at 1 (omega arith), at 2 (omega arith), at 3 (omega arith), at 4 (omega arith))
+      ap (map (number_l 256)) (ap (λ l. get_or l y []) r ∙ chunk_at 5 4 y words [] h ∙ sym (pick_l-range_with_len [] words (y * 5) 5 (omega arith)))
+      ∙ cc (word_at (y * 5) (5 * y + 0) (omega arith) (omega arith), word_at (y * 5 + 1) (5 * y + 1) (omega arith) (omega arith), word_at (y * 5 + 1 + 1) (5 * y + 2) (omega arith) (omega arith), word_at (y * 5 + 1 + 1 + 1) (5 * y + 3) (omega arith) (omega arith), word_at (y * 5 + 1 + 1 + 1 + 1) (5 * y + 4) (omega arith) (omega arith))
 
   last_word : (rest : List (List ℕ)) → rest ≡ drop 20 words → number_l 256 (get_or rest 0 []) ≡ word block 20
   last_word rest r = ap (number_l 256) (ap (λ l. get_or l 0 []) r ∙ get_or-drop 20 words 0 []) ∙ word_at 20 20 refl (omega arith)
@@ -39,8 +39,8 @@ returns c =
     let cut-2 = c.as_chunks-2.ensures in
     let size : length block ≡ 168 = search rules in
     let n : length block / 8 ≡ 21 = omega arith in
-    let count : length ws ≡ 21 = omega (arith, cut.front_len) in
-    let m : length ws / 5 ≡ 4 = omega (arith, count) in
+    let count : length ws ≡ 21 = cut.front_len ∙ n in
+    let m : length ws / 5 ≡ 4 = omega arith in
     let words : ws ≡ first_chunks 8 21 block = cut.front ∙ ap (λ k. first_chunks 8 k block) n in
     let row : (y : ℕ) → y < 4 → map (number_l 256) (get_or rows y []) ≡ five (λ x. word block (5 * y + x)) = λ y h. row_at block ws words rows y count (cut-2.front ∙ ap (λ k. first_chunks 5 k ws) m) h in
     let y0 = c.xor.ensures ∙ ap (sum state.y0.lanes) (c.load_row.ensures ∙ row 0 (omega arith)) in
@@ -49,8 +49,4 @@ returns c =
     let y3 = c.xor-4.ensures ∙ ap (sum state.y3.lanes) (c.load_row-4.ensures ∙ row 3 (omega arith)) in
     let last = c.load.ensures ∙ last_word block ws words c.as_chunks-2.result.1.now (cut-2.back ∙ ap (λ k. drop (k * 5) ws) m) in
     let y4 = c.xor-5.ensures ∙ ap (λ w. sum state.y4.lanes (w ∷ 0 ∷ 0 ∷ 0 ∷ 0 ∷ [])) last in
-    let w21 : drop 168 block ≡ [] = drop_all 168 block (omega arith) in
-    let w22 : drop 176 block ≡ [] = drop_all 176 block (omega arith) in
-    let w23 : drop 184 block ≡ [] = drop_all 184 block (omega arith) in
-    let w24 : drop 192 block ≡ [] = drop_all 192 block (omega arith) in
-    rw (w21, w22, w23, w24) (cc)
+    rw (drop_all 168 block (omega arith), drop_all 176 block (omega arith), drop_all 184 block (omega arith), drop_all 192 block (omega arith)) (cc)

@@ -1,13 +1,10 @@
-use Rattle.std.proofs.Common.{◌≡◌, ◌-◌, ◌%◌, ◌++◌, length, get_or, set, refl, ap, ◌∙◌, arith}
-use lib.Bits.{bit_xor}
-use Rattle.hash.specs.Shake128.{pad}
-use Rattle.hash.proofs.Sponges.{marked_block, padded_is}
+use Rattle.std.proofs.Common.{◌≡◌, ◌-◌, ◌%◌, length, refl, arith}
+use Rattle.hash.proofs.Lists.{marked_block}
+use Rattle.hash.proofs.Sponges.{padded_is}
 use Rattle.hash.proofs.shake128.padded.Goals as goal
 
 pub returns : goal.returns
 returns c =
     let held = c.args.held.now in
     let n : 167 - length held ≡ 167 - length held % 168 = omega arith in
-    ap (λ block. set block 167 (bit_xor (get_or block 167 0) 0x80)) (marked_block 168 0x1F (length held) held c.copy_from_slice.new.self c.copy_from_slice.ensures.after refl c.requires)
-    ∙ padded_is held (167 - length held) (omega arith)
-    ∙ ap (λ k. held ++ pad k) n
+    rw (marked_block 168 0x1F (length held) held c.copy_from_slice.new.self c.copy_from_slice.ensures.after refl c.requires, padded_is held (167 - length held) (omega arith), n)

@@ -1,7 +1,7 @@
 use Rattle.std.proofs.Common.{◌-◌, ap, ◌∙◌, rules}
 use Rattle.hash.specs.Layers.{input_answer}
-use Rattle.hash.specs.Rows.{after}
-use Rattle.hash.proofs.Feeding.{after_halves, holding_none}
+use Rattle.hash.specs.Rows.{after, holding}
+use Rattle.hash.proofs.Feeding.{after_halves}
 use Rattle.hash.proofs.block_input.BlockInput+A+Held+SIZE.put.Goals as goal
 
 pub returns : goal.returns
@@ -13,7 +13,7 @@ returns g c =
     let whole = c.absorb_whole-rest in
     let held = c.complete.new.self.held in
     c.hold-2.ensures
-    ∙ ap (after whole.result.now) (holding_none held.buffer held.count (answer whole.new.below) c.complete.ensures.empty)
+    ∙ ap (λ n. after whole.result.now (holding held.buffer n (answer whole.new.below))) c.complete.ensures.empty
     ∙ whole.ensures.taken
     ∙ ap (after rest) c.complete.ensures.taken
     ∙ after_halves (g.row.SIZE - self.held.count) c.args.bytes.now first rest (input_answer answer self) (search rules) (search rules)

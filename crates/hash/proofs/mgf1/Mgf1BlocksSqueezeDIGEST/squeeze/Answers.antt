@@ -1,4 +1,4 @@
-use Rattle.std.proofs.Common.{◌≡◌, ℕ, suc, ◌+◌, ◌%◌, ◌^◌, ◌<◌, List, [], length, sym, ap, ◌∙◌, arith, rules}
+use Rattle.std.proofs.Common.{◌≡◌, ℕ, suc, ◌+◌, ◌%◌, ◌^◌, ◌<◌, List, [], length, take, ap, ◌∙◌, arith, rules}
 use Rattle.std.proofs.lemmas.List.{append-nil, take_all}
 use Rattle.hash.specs.Digest.{pending}
 use Rattle.hash.specs.Mgf1.{mask_from}
@@ -15,11 +15,8 @@ counter-gives digest c block l h e =
     let first : c ≡ (c + 0) % 2 ^ 32 = omega arith in
     let is : block ≡ digest (big_endian 4 ((c + 0) % 2 ^ 32)) = e ∙ ap (λ k. digest (big_endian 4 k)) first in
     let next : (n : ℕ) → ((c + 1) % 2 ^ 32 + n) % 2 ^ 32 ≡ (c + suc n) % 2 ^ 32 = λ n. omega arith in
-    let given = blocks_give 32 (λ n. digest (big_endian 4 ((c + n) % 2 ^ 32))) (omega arith) (omega (arith, ap length is)) in
-    record {
-      filled = is ∙ sym (take_all 32 _ (omega (arith, ap length is))) ∙ given.filled;
-      rest = simp next given.rest;
-    }
+    let whole : take 32 block ≡ block = take_all 32 block (omega arith) in
+    simp next (blocks_give 32 (λ n. digest (big_endian 4 ((c + n) % 2 ^ 32))) block (omega arith) h (cc (is, whole)))
 
 pub returns : goal.returns
 returns c =

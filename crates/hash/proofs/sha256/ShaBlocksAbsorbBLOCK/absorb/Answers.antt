@@ -1,6 +1,5 @@
-use Rattle.std.proofs.Common.{◌+◌, ◌*◌, ◌%◌, ◌^◌, sym, ap, ◌∙◌, arith, rules}
+use Rattle.std.proofs.Common.{◌+◌, ◌*◌, ◌%◌, ◌^◌, arith, rules}
 use mathlib.Core.Path.{fun_ext}
-use Rattle.hash.specs.Sha256.{digest_from}
 use Rattle.hash.proofs.ShaLaws.{digest_block, digest-mod}
 use Rattle.hash.proofs.sha256.ShaBlocksAbsorbBLOCK.absorb.Goals as goal
 
@@ -10,6 +9,4 @@ returns c =
     let next = (64 * self.count + 64) % 2 ^ 61 in
     let last = 64 * ((self.count + 1) % 2 ^ 64) in
     fun_ext (λ m.
-    ap (λ x. digest_from x last m) c.compress-self.ensures
-    ∙ digest-mod _ last next m (omega arith)
-    ∙ sym (digest_block self.chain.words c.args.block.now m (64 * self.count) (search rules)))
+    rw (c.compress-self.ensures, digest_block self.chain.words c.args.block.now m (64 * self.count) (search rules)) (digest-mod _ last next m (omega arith)))

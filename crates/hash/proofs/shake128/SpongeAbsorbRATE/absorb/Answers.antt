@@ -1,11 +1,10 @@
-use Rattle.std.proofs.Common.{sym, ap, ◌∙◌, rules}
+use Rattle.std.proofs.Common.{sym, ap, rules}
 use mathlib.Core.Path.{fun_ext}
-use Rattle.hash.specs.Keccak.{permuted}
 use Rattle.hash.specs.Lanes.{lanes_of}
-use Rattle.hash.specs.Shake128.{sponge, squeezed}
+use Rattle.hash.specs.Shake128.{squeezed}
 use Rattle.hash.proofs.Sponges.{sponge_block}
 use Rattle.hash.proofs.shake128.SpongeAbsorbRATE.absorb.Goals as goal
 
 pub returns : goal.returns
 returns c =
-    fun_ext (λ m. ap squeezed (ap (λ A. sponge A m) (c.permute.ensures ∙ ap permuted c.mix.ensures) ∙ sym (sponge_block (lanes_of c.args.self.now.0) c.args.block.now m (search rules))))
+    fun_ext (λ m. rw (c.permute.ensures, c.mix.ensures) (ap squeezed (sym (sponge_block (lanes_of c.args.self.now.0) c.args.block.now m (search rules)))))

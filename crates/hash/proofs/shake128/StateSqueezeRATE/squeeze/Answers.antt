@@ -1,4 +1,4 @@
-use Rattle.std.proofs.Common.{◌≡◌, ◌≤◌, length, take, ap, ◌∙◌, arith, length-take, rules}
+use Rattle.std.proofs.Common.{◌≡◌, length, take, arith, rules}
 use Rattle.hash.specs.Keccak.{permuted}
 use Rattle.hash.specs.Lanes.{lanes_of}
 use Rattle.hash.specs.Shake128.{permuted_times, squeezed, state_bytes}
@@ -10,7 +10,6 @@ unfolding squeezed
 returns c =
     let A = permuted (lanes_of c.args.self.now) in
     let block = c.front_block.result in
-    let filled : block ≡ take 168 (state_bytes A) = c.front_block.ensures ∙ ap (λ B. take 168 (state_bytes B)) c.permute.ensures in
+    let filled : block ≡ take 168 (state_bytes A) = cc in
     let size : length block ≡ 168 = search rules in
-    let long : 168 ≤ length (state_bytes A) = omega (arith, ap length filled, length-take 168 (state_bytes A)) in
-    rw (filled, c.permute.ensures) (blocks_give 168 (λ n. state_bytes (permuted_times n A)) (omega arith) long)
+    rw c.permute.ensures (blocks_give 168 (λ n. state_bytes (permuted_times n A)) block (omega arith) size filled)
