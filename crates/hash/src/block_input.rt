@@ -1,5 +1,5 @@
 // Input in pieces of any length, for what takes whole blocks.
-ghost use Rattle.std.specs.Prelude.{◌≡◌, ℕ, ◌+◌, ◌^◌, ◌<◌, List, length, take};
+ghost use Rattle.std.specs.Prelude.{◌≡◌, ℕ, ◌+◌, ◌-◌, ◌^◌, ◌<◌, List, ◌∷◌, ◌++◌, length, replicate, take};
 ghost use Rattle.hash.specs.Rows.{after};
 
 // What takes its input in blocks of `SIZE` bytes.
@@ -104,4 +104,15 @@ fn absorb_whole<'a, A: Absorb<SIZE>, const SIZE: usize>(below: &mut A, bytes: &'
         below.absorb(block);
     }
     rest
+}
+
+// A last block: the bytes held, a mark, and zeros to its end.
+pub(crate) fn marked<const SIZE: usize>(held: &[u8], mark: u8) -> [u8; SIZE]
+    requires { length held.now < SIZE }
+    ensures { result ≡ held.now ++ mark ∷ replicate (SIZE - 1 - length held.now) 0 }
+{
+    let mut block = [0; SIZE];
+    block[..held.len()].copy_from_slice(held);
+    block[held.len()] = mark;
+    block
 }

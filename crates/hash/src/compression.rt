@@ -4,6 +4,7 @@ ghost use Rattle.hash.specs.Sha256.{added, big_endian, block_words, chain_bytes,
 ghost use Rattle.hash.specs.Words.{◌⊕◌};
 ghost use Rattle.hash.specs.Windows.{window_of};
 
+use crate::block_input::marked;
 use std::array;
 use std::simd::prelude::*;
 
@@ -57,6 +58,7 @@ pub(crate) fn initial() -> Chain
     Chain { words: INITIAL }
 }
 
+// A table has no clause of its own: this function says what it is.
 fn round_constants() -> &'static [u32; 64]
     ensures { result.now ≡ constants }
 {
@@ -198,17 +200,6 @@ fn chain_bytes(chain: Chain) -> [u8; DIGEST]
     out
 }
 
-// The bytes held, a one bit, and zeros to the end of the block.
-fn marked(held: &[u8]) -> [u8; BLOCK]
-    requires { length held.now < 64 }
-    ensures { result ≡ held.now ++ 0x80 ∷ replicate (63 - length held.now) 0 }
-{
-    let mut block = [0u8; BLOCK];
-    block[0..held.len()].copy_from_slice(held);
-    block[held.len()] = 0x80;
-    block
-}
-
 // A block with the length of the message, in bits, at its end.
 fn counted(block: [u8; BLOCK], total: u64) -> [u8; BLOCK]
     ensures { result ≡ take 56 block ++ big_endian 8 (8 * (total % 2 ^ 61)) }
@@ -224,7 +215,7 @@ pub(crate) fn finish(chain: Chain, total: u64, held: &[u8]) -> [u8; DIGEST]
     requires { length held.now < 64 }
     ensures { (n : ℕ) → n % 64 ≡ 0 → (n + length held.now) % 2 ^ 61 ≡ total % 2 ^ 61 → result ≡ digest_from chain.words n held.now }
 {
-    let block = marked(held);
+    let block = marked(held, 0x80);
     if held.len() < 56 {
         return chain_bytes(compress(chain, &counted(block, total)));
     }

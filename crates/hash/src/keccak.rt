@@ -84,6 +84,7 @@ const ROTATIONS: [[u32; 5]; 5] = [
     [18, 2, 61, 56, 14],
 ];
 
+// A table has no clause of its own: a function for each says what its table is.
 fn round_constants() -> [u64; 24]
     ensures { result ≡ constants }
 {

@@ -8,7 +8,7 @@ ghost use Rattle.hash.specs.Rows.{Row};
 ghost use Rattle.hash.specs.Shake128.{lane_bytes, mixed, padding, shake128, sponge, squeezed, state_bytes};
 ghost use Rattle.hash.specs.RowBytes.{shake128_below};
 
-use crate::block_input::{Absorb, BlockInput, Held};
+use crate::block_input::{Absorb, BlockInput, Held, marked};
 use crate::block_output::{BlockOutput, Squeeze};
 use crate::interface::{Feeder, Hash};
 use crate::keccak::{Plane, State, permute, xor};
@@ -80,9 +80,7 @@ fn padded(held: &[u8]) -> [u8; RATE]
     requires { length held.now < 168 }
     ensures { result ≡ held.now ++ padding (length held.now) }
 {
-    let mut block = [0; RATE];
-    block[..held.len()].copy_from_slice(held);
-    block[held.len()] = 0x1F;
+    let mut block = marked(held, 0x1F);
     block[RATE - 1] ^= 0x80;
     block
 }
@@ -130,6 +128,7 @@ impl Hash for Shake128 {
     }
 }
 
+// Feeding is the layer's; the turn is each hash's own, so each has an impl of its own.
 impl Feeder for BlockInput<Sponge, Held<RATE>> {
     ghost use Rattle.hash.specs.Layers.{input_answer};
 
