@@ -26,11 +26,25 @@ pub struct Held<const SIZE: usize> {
 }
 
 impl<const SIZE: usize> Held<SIZE> {
+    ghost use Rattle.hash.specs.Layers.{held_bytes};
+
     pub(crate) fn bytes(&self) -> &[u8]
-        ensures held { result.now ≡ take self.now.count self.now.buffer }
+        ensures held { result.now ≡ held_bytes self.now }
         ensures room { length result.now < SIZE }
     {
         &self.buffer[..self.count]
+    }
+
+    // A last block: the bytes held, a mark, and zeros to its end.
+    pub(crate) fn marked(&self, mark: u8) -> [u8; SIZE]
+        ensures room { length (held_bytes self.now) < SIZE }
+        ensures block { result ≡ held_bytes self.now ++ mark ∷ replicate (SIZE - 1 - length (held_bytes self.now)) 0 }
+    {
+        let held = self.bytes();
+        let mut block = [0; SIZE];
+        block[..held.len()].copy_from_slice(held);
+        block[held.len()] = mark;
+        block
     }
 }
 
@@ -104,15 +118,4 @@ fn absorb_whole<'a, A: Absorb<SIZE>, const SIZE: usize>(below: &mut A, bytes: &'
         below.absorb(block);
     }
     rest
-}
-
-// A last block: the bytes held, a mark, and zeros to its end.
-pub(crate) fn marked<const SIZE: usize>(held: &[u8], mark: u8) -> [u8; SIZE]
-    requires { length held.now < SIZE }
-    ensures { result ≡ held.now ++ mark ∷ replicate (SIZE - 1 - length held.now) 0 }
-{
-    let mut block = [0; SIZE];
-    block[..held.len()].copy_from_slice(held);
-    block[held.len()] = mark;
-    block
 }

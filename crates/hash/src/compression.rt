@@ -1,10 +1,11 @@
 // The parts of SHA-256 (FIPS 180-4): the compression of a block, and the padding at the end.
 ghost use Rattle.std.specs.Prelude.{◌≡◌, ℕ, ◌+◌, ◌-◌, ◌*◌, ◌%◌, ◌^◌, ◌<◌, ◌∷◌, ◌++◌, map, length, take, drop, replicate};
+ghost use Rattle.hash.specs.Layers.{held_bytes};
 ghost use Rattle.hash.specs.Sha256.{added, big_endian, block_words, chain_bytes, compressed, constants, digest_from, initial, round, rounds, rotr, schedule, shr, started, word_at};
 ghost use Rattle.hash.specs.Words.{◌⊕◌};
 ghost use Rattle.hash.specs.Windows.{window_of};
 
-use crate::block_input::marked;
+use crate::block_input::Held;
 use std::array;
 use std::simd::prelude::*;
 
@@ -211,12 +212,11 @@ fn counted(block: [u8; BLOCK], total: u64) -> [u8; BLOCK]
 
 // The digest of a message that ends with the bytes held: `chain` is the value after the n bytes
 // before them, and `total` counts all bytes, modulo 2^61 or any multiple of it.
-pub(crate) fn finish(chain: Chain, total: u64, held: &[u8]) -> [u8; DIGEST]
-    requires { length held.now < 64 }
-    ensures { (n : ℕ) → n % 64 ≡ 0 → (n + length held.now) % 2 ^ 61 ≡ total % 2 ^ 61 → result ≡ digest_from chain.words n held.now }
+pub(crate) fn finish(chain: Chain, total: u64, held: &Held<BLOCK>) -> [u8; DIGEST]
+    ensures { (n : ℕ) → n % 64 ≡ 0 → (n + length (held_bytes held.now)) % 2 ^ 61 ≡ total % 2 ^ 61 → result ≡ digest_from chain.words n (held_bytes held.now) }
 {
-    let block = marked(held, 0x80);
-    if held.len() < 56 {
+    let block = held.marked(0x80);
+    if held.bytes().len() < 56 {
         return chain_bytes(compress(chain, &counted(block, total)));
     }
     let next = compress(chain, &block);

@@ -57,10 +57,10 @@ impl Sha256 {
         ensures { result ≡ pending self [] }
     {
         let blocks = self.input.below;
-        let held = self.input.held.bytes();
+        let held = self.input.held;
         let whole = blocks.count.wrapping_mul(BLOCK as u64);
-        let total = whole.wrapping_add(held.len() as u64);
-        finish(blocks.chain, total, held)
+        let total = whole.wrapping_add(held.bytes().len() as u64);
+        finish(blocks.chain, total, &held)
     }
 
     // The digest of a whole message.

@@ -4,11 +4,12 @@ ghost use Rattle.std.specs.Simd.Lanes.{digits_l, number_l};
 ghost use Rattle.std.proofs.Common.{rules};
 ghost use Rattle.hash.specs.Keccak.{permuted};
 ghost use Rattle.hash.specs.Lanes.{lanes_of};
+ghost use Rattle.hash.specs.Layers.{held_bytes};
 ghost use Rattle.hash.specs.Rows.{Row};
 ghost use Rattle.hash.specs.Shake128.{lane_bytes, mixed, padding, shake128, sponge, squeezed, state_bytes};
 ghost use Rattle.hash.specs.RowBytes.{shake128_below};
 
-use crate::block_input::{Absorb, BlockInput, Held, marked};
+use crate::block_input::{Absorb, BlockInput, Held};
 use crate::block_output::{BlockOutput, Squeeze};
 use crate::interface::{Feeder, Hash};
 use crate::keccak::{Plane, State, permute, xor};
@@ -76,11 +77,10 @@ fn front_block(state: State) -> [u8; RATE]
 }
 
 // The last block: the held bytes and the padding.
-fn padded(held: &[u8]) -> [u8; RATE]
-    requires { length held.now < 168 }
-    ensures { result ≡ held.now ++ padding (length held.now) }
+fn padded(held: &Held<RATE>) -> [u8; RATE]
+    ensures { result ≡ held_bytes held.now ++ padding (length (held_bytes held.now)) }
 {
-    let mut block = marked(held, 0x1F);
+    let mut block = held.marked(0x1F);
     block[RATE - 1] ^= 0x80;
     block
 }
@@ -145,6 +145,6 @@ impl Feeder for BlockInput<Sponge, Held<RATE>> {
             below: Sponge(state),
             held,
         } = self;
-        BlockOutput::new(mix(state, &padded(held.bytes())))
+        BlockOutput::new(mix(state, &padded(&held)))
     }
 }

@@ -1,4 +1,4 @@
-use Rattle.std.proofs.Common.{arith}
+use Rattle.std.proofs.Common.{length, ap, arith}
 use Rattle.std.proofs.lemmas.List.{append-nil}
 use Rattle.hash.specs.Digest.{pending}
 use Rattle.hash.proofs.sha256.Sha256.finish.Goals as goal
@@ -6,4 +6,5 @@ use Rattle.hash.proofs.sha256.Sha256.finish.Goals as goal
 pub returns : goal.returns
 unfolding pending
 returns c =
-    rw (append-nil, ← c.bytes-held.ensures.held) (c.finish.ensures _ (omega arith) (omega arith))
+    let count = ap length c.bytes.ensures.held in
+    rw append-nil (c.finish.ensures _ (omega arith) (omega (arith, count)))
