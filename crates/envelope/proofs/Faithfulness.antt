@@ -3,19 +3,19 @@ use Rattle.std.proofs.Common.{◌≡◌, ℕ, zero, suc, ◌+◌, ◌≤◌, Lis
 use Rattle.std.proofs.lemmas.List.{length-take-le, take_at, drop_at}
 use Rattle.std.proofs.lemmas.Bool.{cases_lt, lt-ltb, le-ltb}
 use Rattle.std.proofs.lemmas.Bool.Decides.{nat_tests}
+use Rattle.std.proofs.lemmas.Grind.{common_steps}
 use Rattle.std.specs.List.{flat_map}
 use Rattle.fault.specs.declared.Origin.TheVariants.{Envelope}
 use Rattle.fault.specs.declared.Refusal.TheVariants.{UnknownKind, BodyCutShort}
-use Rattle.fault.specs.Numbers.{letter, number, Told}
 use Rattle.fault.specs.declared.Refusal.{Refusal}
-use Rattle.std.proofs.lemmas.Grind.{common_steps}
-use Rattle.envelope.proofs.Steps.{found}
-use Rattle.envelope.proofs.Readings.{onward, step}
+use Rattle.fault.specs.Numbers.{letter, number, Told}
 use Rattle.envelope.specs.declared.kind.Kind.{Kind}
 use Rattle.envelope.specs.Entries.{Entry, written}
 use Rattle.envelope.specs.Kinds.{kind_byte, body_length, kind_of}
 use Rattle.envelope.specs.Law.{Placed, Stands, Faithful}
 use Rattle.envelope.specs.Reading.{Outcome, next_at, next_kind, continued, fault_at, reading_from, reading}
+use Rattle.envelope.proofs.Steps.{found}
+use Rattle.envelope.proofs.Readings.{onward, step}
 
 kind_of-kind_byte : (k : Kind) → kind_of (kind_byte k) ≡ Some k
 kind_of-kind_byte k = grind (arith, nat_tests)
@@ -32,6 +32,7 @@ record From (place : ℕ) (bytes : List ℕ) (o : Outcome) : Type 0 where
   all : flat_map written o.entries ++ left ≡ bytes
   ends : Ends (place + length (flat_map written o.entries)) left o.fault
 
+-- nothing is read where a fault stands
 refused : (place b : ℕ) (bytes : List ℕ) (r : Refusal) → Stands (number r) (b ∷ bytes) → From place (b ∷ bytes) (record { entries = []; fault = Some (fault_at r place) })
 refused place b bytes r stands = record { placed = tt; left = b ∷ bytes; all = refl; ends = (refl, omega arith, stands) }
 
@@ -47,6 +48,7 @@ whole place bytes e left o is at size next =
       ends = subst (λ p. Ends p next.left o.fault) (omega (arith, length-append e.body more)) next.ends;
     }
 
+-- whatever stands first, if the law holds of what is left
 first : (place b : ℕ) (bytes : List ℕ) → ((p : ℕ) (left : List ℕ) → length left ≤ length bytes → From p left (reading_from p left))
     → From place (b ∷ bytes) (onward reading_from (next_at place (b ∷ bytes)) place (b ∷ bytes))
 first place b bytes rest = go (kind_of b) refl

@@ -1,9 +1,9 @@
 -- Readings step by step, as a loop over `next` takes them. Assumes nothing.
 use Rattle.std.proofs.Common.{◌≡◌, ℕ, zero, suc, ◌+◌, ◌≤◌, List, [], ◌∷◌, ◌++◌, length, drop, Some, None, Ok, Err, Option, refl, ap, arith, length-drop}
+use Rattle.std.proofs.lemmas.Grind.{common_steps}
 use Rattle.fault.specs.Numbers.{Told}
 use Rattle.envelope.specs.declared.record.Record.{Record}
 use Rattle.envelope.specs.Entries.{Entry, entry}
-use Rattle.std.proofs.lemmas.Grind.{common_steps}
 use Rattle.envelope.specs.Reading.{Next, Outcome, next_at, taken, continued, reading_within, reading_from, answered}
 
 -- an answer, and what is read after it
@@ -42,10 +42,10 @@ module _ {all : Outcome} {es : List Entry} {place : ℕ} {left : List ℕ} (befo
   on : (x : Next) → x ≡ next_at place left → (all.entries ≡ es ++ (onward reading_from x place left).entries) × (all.fault ≡ (onward reading_from x place left).fault)
   on x is = rw is (rw (← step place left) (before.entries, before.fault))
 
-  pub ended : Ok None ≡ next_at place left → all ≡ record { entries = es; fault = None }
+  pub ended : Ok None ≡ next_at place left → record { entries = es; fault = None } ≡ all
   ended is = let last = on (Ok None) is in grind (arith, common_steps)
 
-  pub stopped : (f : Told) → Err f ≡ next_at place left → all ≡ record { entries = es; fault = Some f }
+  pub stopped : (f : Told) → Err f ≡ next_at place left → record { entries = es; fault = Some f } ≡ all
   stopped f is = let last = on (Err f) is in grind (arith, common_steps)
 
   -- a record more, as `next` gives it

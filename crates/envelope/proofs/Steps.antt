@@ -14,7 +14,7 @@ use Rattle.envelope.specs.Reading.{next_at, Next}
 pub known_from : (o : Option Kind) (k : Kind) {r : Result Kind Refusal} → r ≡ ok_or o UnknownKind → MatchResult r (λ x. ◌≡◌ {A = Result Kind Fault} (Ok k) (Ok x)) (λ e. ⊥) → o ≡ Some k
 known_from o k is through = grind arith
 
--- a record of kind k stands first, if its body is as long as that takes
+-- where a byte of kind k stands before enough bytes, the next record is these
 pub found : (place : ℕ) (all : List ℕ) (k : Kind) → kind_of (get_or all 0 0) ≡ Some k → body_length k ≤ length (drop 1 all)
     → ◌≡◌ {A = Next} (Ok (Some (record { place = place; kind = k; body = take (body_length k) (drop 1 all) }))) (next_at place all)
 found place all k known long = grind (arith, nat_tests)

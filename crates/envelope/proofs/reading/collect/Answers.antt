@@ -1,9 +1,8 @@
-use Rattle.std.proofs.Common.{sym}
+use Rattle.std.proofs.lemmas.List.{map_push}
+use Rattle.envelope.specs.Entries.{entry}
 use Rattle.envelope.proofs.Readings.{ended, stopped, one_more}
 use Rattle.envelope.proofs.reading.collect.Goals.{in-Ok-None, in-Err}
 use Rattle.envelope.proofs.reading.collect.Goals as goal
-use Rattle.std.proofs.lemmas.List.{map_push}
-use Rattle.envelope.specs.Entries.{entry}
 
 pub loop-record-preserved : goal.loop-record-preserved
 loop-record-preserved c =
@@ -13,6 +12,6 @@ loop-record-preserved c =
 pub returns : goal.returns
 returns c =
     elim c.match-next.branch [
-      | in-Ok-None w ↦ (rw w.fault-is (sym (ended c.loop-record.invariant (rw w.in-Ok-None.field-0-is at w.in-Ok-None.ensures.answers))))
-      | in-Err w ↦ (rw w.fault-is (sym (stopped c.loop-record.invariant _ w.in-Err.ensures.answers)))
+      | in-Ok-None w ↦ rw w.fault-is (ended c.loop-record.invariant (rw w.in-Ok-None.field-0-is at w.in-Ok-None.ensures.answers))
+      | in-Err w ↦ rw w.fault-is (stopped c.loop-record.invariant _ w.in-Err.ensures.answers)
     ]
