@@ -8,7 +8,7 @@ use crate::kind::Kind;
 use crate::record::{Part, Record};
 use fault::{Fault, Origin, Refusal};
 
-// What is left of an envelope, and its place.
+// What is left of an envelope, and its place. It has no `Model`, with which it could not be `Copy`.
 #[derive(Clone, Copy)]
 pub struct Reader<'a> {
     place: usize,
@@ -52,10 +52,9 @@ impl<'a> Reader<'a> {
         };
         let kind = Kind::try_from(*first).map_err(|refusal| fault_at(refusal, place))?;
         let length = kind.body_length();
-        if rest.len() < length {
-            return Err(fault_at(Refusal::BodyCutShort, place));
-        }
-        let (bytes, rest) = rest.split_at(length);
+        let (bytes, rest) = rest
+            .split_at_checked(length)
+            .ok_or(fault_at(Refusal::BodyCutShort, place))?;
         self.rest = rest;
         self.place = place + 1 + length;
         Ok(Some(Record::new(kind, Part { place, bytes })))

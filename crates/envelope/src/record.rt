@@ -11,7 +11,7 @@ pub struct Part<'a> {
     pub bytes: &'a [u8],
 }
 
-// A record, by what its body is.
+// A record, by what its body is. It repeats the cases of `Kind`, so that each holds just what it has.
 #[derive(Clone, Copy)]
 pub enum Record<'a> {
     Key(Set, Part<'a>),

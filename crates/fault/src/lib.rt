@@ -43,15 +43,22 @@ pub enum Origin {
     Scheme,
 }
 
-// The letter of an origin.
+impl Origin {
+    pub fn letter(self) -> &'static str
+        ensures { result.now ≡ letter self }
+    {
+        match self {
+            Origin::Envelope => "E",
+            Origin::Scheme => "S",
+        }
+    }
+}
+
 impl fmt::Display for Origin {
     ghost output = { λ o. Some (letter o) };
 
     fn fmt<W: fmt::Write>(&self, f: &mut fmt::Formatter<W>) -> fmt::Result {
-        f.write_str(match self {
-            Origin::Envelope => "E",
-            Origin::Scheme => "S",
-        })
+        f.write_str(self.letter())
     }
 }
 

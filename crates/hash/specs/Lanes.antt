@@ -1,4 +1,4 @@
--- What the state in the code stands for, and the rows of which the code makes a round. Assumes nothing.
+-- What the state in the code stands for, and a row after χ. Assumes nothing.
 use Rattle.std.specs.Prelude.{ℕ, ◌+◌, ◌%◌, List, [], ◌∷◌, bit_and, slice_index, slice_index_or}
 use Rattle.hash.specs.declared.keccak.State.{State}
 use Rattle.hash.specs.Words.{complement, ◌⊕◌}

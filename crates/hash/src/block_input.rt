@@ -17,7 +17,8 @@ pub trait Absorb<const SIZE: usize> {
     ghost size: { (0 < SIZE) × (SIZE < 2 ^ 63) };
 }
 
-// The bytes of a block that is not yet whole: the first `count` of the buffer.
+// The bytes of a block that is not yet whole: the first `count` of the buffer. The count stands beside it, since a
+// `Vec` could find no memory, and a vector of fixed capacity is not `Copy`.
 #[derive(Clone, Copy)]
 pub struct Held<const SIZE: usize> {
     buffer: [u8; SIZE],

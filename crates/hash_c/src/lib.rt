@@ -37,6 +37,7 @@ pub extern "C" fn hash_shake128_of_five(
 )
     ensures { out.new ≡ front (length out.old) (shake128 (a.now ++ (b.now ++ (c.now ++ (d.now ++ e.now))))) }
 {
+    // Call by call, as the contract has them: a loop over five names is no plainer, and wants an invariant.
     let mut feeder = Shake128::start();
     feeder.feed(a);
     feeder.feed(b);

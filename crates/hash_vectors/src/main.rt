@@ -32,6 +32,7 @@ fn main(rt: HostRuntime) -> io::Result<ExitCode> {
     let heap = rt.alloc();
     for line in BufReader::new(heap, rt.stdin())?.lines(heap) {
         let line = line?;
+        // a fault is said with its line, so it does not go up by `?`
         match answered_line(heap, line.as_str()) {
             Ok(text) => rt.println(text)?,
             Err(fault) => return fail(&rt, line.as_str(), fault),
