@@ -42,12 +42,15 @@ fn mix(state: State, block: &[u8; RATE]) -> State
     let last = Plane {
         lanes: [load(last[0]), 0, 0, 0, 0],
     };
+    let [y0, y1, y2, y3, y4] = state.rows;
     State {
-        y0: xor(state.y0, load_row(rows[0])),
-        y1: xor(state.y1, load_row(rows[1])),
-        y2: xor(state.y2, load_row(rows[2])),
-        y3: xor(state.y3, load_row(rows[3])),
-        y4: xor(state.y4, last),
+        rows: [
+            xor(y0, load_row(rows[0])),
+            xor(y1, load_row(rows[1])),
+            xor(y2, load_row(rows[2])),
+            xor(y3, load_row(rows[3])),
+            xor(y4, last),
+        ],
     }
 }
 
