@@ -54,18 +54,11 @@ fn mix(state: State, block: &[u8; RATE]) -> State
     }
 }
 
-// The bytes of a word, the low byte first.
-fn store(word: u64) -> [u8; 8]
-    ensures { result ≡ digits_l 256 8 word }
-{
-    word.to_le_bytes()
-}
-
 // The bytes of a row, lane by lane.
 fn row_bytes(row: [u64; 5]) -> [[u8; 8]; 5]
     ensures { result ≡ map (digits_l 256 8) row }
 {
-    row.map(store)
+    row.map(u64::to_le_bytes)
 }
 
 // The first bytes of the state.
