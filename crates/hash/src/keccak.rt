@@ -12,6 +12,7 @@ pub struct Plane {
 }
 
 impl Plane {
+    // The lanes alone.
     fn into_lanes(self) -> [u64; 5]
         ensures { result ≡ self.lanes }
     {
@@ -131,6 +132,7 @@ fn turned(row: Plane, distances: [u32; 5]) -> Plane
     }
 }
 
+// Row by row: over both arrays, in a closure, the proof does not close.
 fn rho(s: State) -> State
     ensures { lanes_of result ≡ ρ (lanes_of s) }
 {

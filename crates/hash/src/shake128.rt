@@ -17,7 +17,7 @@ use crate::keccak::{Plane, State, permute, xor};
 // The length of a block.
 const RATE: usize = 168;
 
-// The word of eight bytes, the low byte first.
+// The word of eight bytes, the low byte first. An array of words does not say that each has its eight bytes.
 fn load(bytes: [u8; 8]) -> u64
     ensures { result ≡ number_l 256 bytes }
 {

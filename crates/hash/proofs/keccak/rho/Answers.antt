@@ -13,5 +13,5 @@ returns c =
     let table = c.rotations.result in
     let row : (y : ℕ) → y < 5 → turned table y (slice_index_or c.args.s.rows y bare).lanes ≡ turned table y (slice_index_or A y []) = λ y h. ap (turned table y) (row_at c.args.s.rows (search rules) y h) in
     let made : c.turned.result.lanes ∷ c.turned-2.result.lanes ∷ c.turned-3.result.lanes ∷ c.turned-4.result.lanes ∷ c.turned-5.result.lanes ∷ [] ≡ five (λ y. turned table y (slice_index_or A y [])) =
-        cc (c.turned.ensures ∙ row 0 (omega arith), c.turned-2.ensures ∙ row 1 (omega arith), c.turned-3.ensures ∙ row 2 (omega arith), c.turned-4.ensures ∙ row 3 (omega arith), c.turned-5.ensures ∙ row 4 (omega arith)) in
+    cc (c.turned.ensures ∙ row 0 (omega arith), c.turned-2.ensures ∙ row 1 (omega arith), c.turned-3.ensures ∙ row 2 (omega arith), c.turned-4.ensures ∙ row 3 (omega arith), c.turned-5.ensures ∙ row 4 (omega arith)) in
     made ∙ ap (λ d. five (λ y. turned d y (slice_index_or A y []))) c.rotations.ensures
