@@ -6,3 +6,4 @@ pub mod ShaLaws
 pub mod BitLaws
 pub mod RoundLaws
 pub mod WindowLaws
+pub mod Planes

@@ -1,11 +1,11 @@
 -- What the state in the code stands for, and a row after χ. Assumes nothing.
-use Rattle.std.specs.Prelude.{ℕ, ◌+◌, ◌%◌, List, [], ◌∷◌, bit_and, slice_index, slice_index_or}
+use Rattle.std.specs.Prelude.{ℕ, ◌+◌, ◌%◌, List, map, bit_and, slice_index, slice_index_or}
 use Rattle.hash.specs.declared.keccak.State.{State}
 use Rattle.hash.specs.Words.{complement, ◌⊕◌}
 use Rattle.hash.specs.Keccak.{Lanes, five}
 
 abbrev pub lanes_of : State → Lanes
-lanes_of s = s.y0.lanes ∷ s.y1.lanes ∷ s.y2.lanes ∷ s.y3.lanes ∷ s.y4.lanes ∷ []
+lanes_of s = map (λ row. row.lanes) s.rows
 
 -- a row after χ
 abbrev pub χ_row : List ℕ → List ℕ

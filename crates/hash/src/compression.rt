@@ -74,14 +74,20 @@ fn big_sigma<const A: u32, const B: u32, const C: u32>(x: u32) -> u32
     x.rotate_right(A) ^ x.rotate_right(B) ^ x.rotate_right(C)
 }
 
+// Each of four words turned right by N bits.
+fn turned<const N: u32>(x: u32x4) -> u32x4
+    requires { (0 < N) × (N < 32) }
+    ensures { result ≡ map (rotr N) x }
+{
+    (x >> u32x4::splat(N)) | (x << u32x4::splat(32 - N))
+}
+
 // Two rotations and a shift of each of four words: σ₀ and σ₁.
 fn small_sigma<const A: u32, const B: u32, const C: u32>(x: u32x4) -> u32x4
     requires { (0 < A) × (A < 32) × (0 < B) × (B < 32) × (C < 32) }
     ensures { result ≡ map (λ w. rotr A w ⊕ rotr B w ⊕ shr C w) x }
 {
-    ((x >> u32x4::splat(A)) | (x << u32x4::splat(32 - A)))
-        ^ ((x >> u32x4::splat(B)) | (x << u32x4::splat(32 - B)))
-        ^ (x >> u32x4::splat(C))
+    turned::<A>(x) ^ turned::<B>(x) ^ (x >> u32x4::splat(C))
 }
 
 // Four words, from their bytes.

@@ -11,14 +11,19 @@ pub struct Plane {
     pub(crate) lanes: [u64; 5],
 }
 
+impl Plane {
+    // The lanes alone.
+    fn into_lanes(self) -> [u64; 5]
+        ensures { result ≡ self.lanes }
+    {
+        self.lanes
+    }
+}
+
 // Five rows, by their y.
 #[derive(Clone, Copy)]
 pub struct State {
-    pub(crate) y0: Plane,
-    pub(crate) y1: Plane,
-    pub(crate) y2: Plane,
-    pub(crate) y3: Plane,
-    pub(crate) y4: Plane,
+    pub(crate) rows: [Plane; 5],
 }
 
 impl State {
@@ -26,13 +31,8 @@ impl State {
     pub fn blank() -> Self
         ensures { lanes_of result ≡ blank }
     {
-        let row = Plane { lanes: [0; 5] };
         State {
-            y0: row,
-            y1: row,
-            y2: row,
-            y3: row,
-            y4: row,
+            rows: [Plane { lanes: [0; 5] }; 5],
         }
     }
 
@@ -40,12 +40,7 @@ impl State {
     pub fn rows(self) -> [[u64; 5]; 5]
         ensures { result ≡ lanes_of self }
     {
-        let y0 = self.y0.lanes;
-        let y1 = self.y1.lanes;
-        let y2 = self.y2.lanes;
-        let y3 = self.y3.lanes;
-        let y4 = self.y4.lanes;
-        [y0, y1, y2, y3, y4]
+        self.rows.map(Plane::into_lanes)
     }
 }
 
@@ -111,7 +106,8 @@ pub(crate) fn xor(a: Plane, b: Plane) -> Plane
 fn theta_effect(s: State) -> Plane
     ensures { result.lanes ≡ five (effect (lanes_of s)) }
 {
-    let sums = xor(xor(xor(xor(s.y0, s.y1), s.y2), s.y3), s.y4);
+    let [y0, y1, y2, y3, y4] = s.rows;
+    let sums = xor(xor(xor(xor(y0, y1), y2), y3), y4);
     let c = sums.lanes;
     Plane {
         lanes: array::from_fn(|x| c[(x + 4) % 5] ^ c[(x + 1) % 5].rotate_left(1)),
@@ -123,11 +119,7 @@ fn theta(s: State) -> State
 {
     let effect = theta_effect(s);
     State {
-        y0: xor(s.y0, effect),
-        y1: xor(s.y1, effect),
-        y2: xor(s.y2, effect),
-        y3: xor(s.y3, effect),
-        y4: xor(s.y4, effect),
+        rows: s.rows.map(|row| xor(row, effect)),
     }
 }
 
@@ -140,38 +132,45 @@ fn turned(row: Plane, distances: [u32; 5]) -> Plane
     }
 }
 
+// Row by row: over both arrays, in a closure, the proof does not close.
 fn rho(s: State) -> State
     ensures { lanes_of result ≡ ρ (lanes_of s) }
 {
+    let [y0, y1, y2, y3, y4] = s.rows;
     let [n0, n1, n2, n3, n4] = rotations();
     State {
-        y0: turned(s.y0, n0),
-        y1: turned(s.y1, n1),
-        y2: turned(s.y2, n2),
-        y3: turned(s.y3, n3),
-        y4: turned(s.y4, n4),
+        rows: [
+            turned(y0, n0),
+            turned(y1, n1),
+            turned(y2, n2),
+            turned(y3, n3),
+            turned(y4, n4),
+        ],
     }
 }
 
 fn pi(s: State) -> State
     ensures { lanes_of result ≡ π (lanes_of s) }
 {
-    let [a0, a1, a2, a3, a4] = s.y0.lanes;
-    let [b0, b1, b2, b3, b4] = s.y1.lanes;
-    let [c0, c1, c2, c3, c4] = s.y2.lanes;
-    let [d0, d1, d2, d3, d4] = s.y3.lanes;
-    let [e0, e1, e2, e3, e4] = s.y4.lanes;
+    let [a, b, c, d, e] = s.rows;
+    let [a0, a1, a2, a3, a4] = a.lanes;
+    let [b0, b1, b2, b3, b4] = b.lanes;
+    let [c0, c1, c2, c3, c4] = c.lanes;
+    let [d0, d1, d2, d3, d4] = d.lanes;
+    let [e0, e1, e2, e3, e4] = e.lanes;
     let y0 = [a0, b1, c2, d3, e4];
     let y1 = [a3, b4, c0, d1, e2];
     let y2 = [a1, b2, c3, d4, e0];
     let y3 = [a4, b0, c1, d2, e3];
     let y4 = [a2, b3, c4, d0, e1];
     State {
-        y0: Plane { lanes: y0 },
-        y1: Plane { lanes: y1 },
-        y2: Plane { lanes: y2 },
-        y3: Plane { lanes: y3 },
-        y4: Plane { lanes: y4 },
+        rows: [
+            Plane { lanes: y0 },
+            Plane { lanes: y1 },
+            Plane { lanes: y2 },
+            Plane { lanes: y3 },
+            Plane { lanes: y4 },
+        ],
     }
 }
 
@@ -189,20 +188,16 @@ fn chi(s: State) -> State
     ensures { lanes_of result ≡ χ (lanes_of s) }
 {
     State {
-        y0: chi_row(s.y0),
-        y1: chi_row(s.y1),
-        y2: chi_row(s.y2),
-        y3: chi_row(s.y3),
-        y4: chi_row(s.y4),
+        rows: s.rows.map(chi_row),
     }
 }
 
 fn iota(s: State, constant: u64) -> State
     ensures { lanes_of result ≡ ι constant (lanes_of s) }
 {
-    let mut y0 = s.y0;
-    y0.lanes[0] ^= constant;
-    State { y0, ..s }
+    let mut rows = s.rows;
+    rows[0].lanes[0] ^= constant;
+    State { rows }
 }
 
 // All five steps.

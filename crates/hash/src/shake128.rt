@@ -17,7 +17,7 @@ use crate::keccak::{Plane, State, permute, xor};
 // The length of a block.
 const RATE: usize = 168;
 
-// The word of eight bytes, the low byte first.
+// The word of eight bytes, the low byte first. An array of words does not say that each has its eight bytes.
 fn load(bytes: [u8; 8]) -> u64
     ensures { result ≡ number_l 256 bytes }
 {
@@ -42,27 +42,23 @@ fn mix(state: State, block: &[u8; RATE]) -> State
     let last = Plane {
         lanes: [load(last[0]), 0, 0, 0, 0],
     };
+    let [y0, y1, y2, y3, y4] = state.rows;
     State {
-        y0: xor(state.y0, load_row(rows[0])),
-        y1: xor(state.y1, load_row(rows[1])),
-        y2: xor(state.y2, load_row(rows[2])),
-        y3: xor(state.y3, load_row(rows[3])),
-        y4: xor(state.y4, last),
+        rows: [
+            xor(y0, load_row(rows[0])),
+            xor(y1, load_row(rows[1])),
+            xor(y2, load_row(rows[2])),
+            xor(y3, load_row(rows[3])),
+            xor(y4, last),
+        ],
     }
-}
-
-// The bytes of a word, the low byte first.
-fn store(word: u64) -> [u8; 8]
-    ensures { result ≡ digits_l 256 8 word }
-{
-    word.to_le_bytes()
 }
 
 // The bytes of a row, lane by lane.
 fn row_bytes(row: [u64; 5]) -> [[u8; 8]; 5]
     ensures { result ≡ map (digits_l 256 8) row }
 {
-    row.map(store)
+    row.map(u64::to_le_bytes)
 }
 
 // The first bytes of the state.
