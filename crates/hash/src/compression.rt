@@ -97,7 +97,7 @@ fn four_words(bytes: [[u8; 4]; 4]) -> u32x4
     u32x4::from_array(bytes.map(u32::from_be_bytes))
 }
 
-// The words of a block.
+// The words of a block, four to each of the window's vectors.
 fn block_window(block: &[u8; BLOCK]) -> Window
     ensures { window_of result ≡ block_words block.now }
 {

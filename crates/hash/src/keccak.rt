@@ -12,7 +12,7 @@ pub struct Plane {
 }
 
 impl Plane {
-    // The lanes alone.
+    // The lanes alone. Under `map`, a closure that takes a field out tells a proof nothing of it.
     fn into_lanes(self) -> [u64; 5]
         ensures { result ≡ self.lanes }
     {

@@ -17,7 +17,7 @@ use crate::keccak::{Plane, State, permute, xor};
 // The length of a block.
 const RATE: usize = 168;
 
-// The word of eight bytes, the low byte first. An array of words does not say that each has its eight bytes.
+// The word of eight bytes, the low byte first. Under `map`, the library's method by itself does not prove.
 fn load(bytes: [u8; 8]) -> u64
     ensures { result ≡ number_l 256 bytes }
 {
@@ -33,7 +33,7 @@ fn load_row(words: [[u8; 8]; 5]) -> Plane
     }
 }
 
-// Adds a block to the state.
+// Adds a block to the state, row by row: the last row has only one word of it.
 fn mix(state: State, block: &[u8; RATE]) -> State
     ensures { lanes_of result ≡ mixed (lanes_of state) block.now }
 {
