@@ -24,7 +24,7 @@ impl<F: Feeder> Absorb<CAPACITY> for F {
     }
 }
 
-// A feeder behind a buffer. Feeding is the layer's; the turn is its own.
+// A feeder behind a buffer. Feeding is the layer's; the turn is its own, so it has an impl of its own.
 impl<F: Feeder> Feeder for BlockInput<F, Held<CAPACITY>> {
     ghost use Rattle.hash.specs.Layers.{input_answer};
 

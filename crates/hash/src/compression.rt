@@ -36,7 +36,7 @@ pub struct Chain {
     words: [u32; 8],
 }
 
-// The words of the schedule for the next sixteen rounds, four to a vector.
+// The words of the schedule for the next sixteen rounds, four to a vector. Each vector is used by itself.
 #[derive(Clone, Copy)]
 struct Window {
     first: u32x4,

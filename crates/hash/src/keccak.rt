@@ -20,7 +20,7 @@ impl Plane {
     }
 }
 
-// Five rows, by their y.
+// Five rows, by their y. `lanes_of` says once what they stand for; a `Model` would be that and its inverse.
 #[derive(Clone, Copy)]
 pub struct State {
     pub(crate) rows: [Plane; 5],
