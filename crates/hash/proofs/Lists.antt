@@ -1,8 +1,7 @@
 -- Laws of lists.
-use Rattle.std.specs.Prelude.{slice_set}
 use Rattle.std.specs.Simd.{first_chunks}
-use Rattle.std.proofs.Common.{◌≡◌, ℕ, zero, suc, ◌+◌, ◌-◌, ◌*◌, ◌<◌, List, ◌∷◌, ◌++◌, map, length, get_or, take, drop, replicate, refl, sym, ◌∙◌, arith}
-use Rattle.std.proofs.lemmas.List.{drop-drop, drop-replicate, ext_get_or, get_or-map, length-map, set_at}
+use Rattle.std.proofs.Common.{◌≡◌, ℕ, zero, suc, ◌+◌, ◌*◌, ◌<◌, List, map, length, get_or, take, drop, sym, ◌∙◌, arith}
+use Rattle.std.proofs.lemmas.List.{drop-drop, ext_get_or, get_or-map, length-map}
 
 -- a list cut into parts of one length
 pub chunk_at : {X : Type 0} (n k i : ℕ) (xs d : List X) → i < k → get_or (first_chunks n k xs) i d ≡ take n (drop (i * n) xs)
@@ -15,9 +14,3 @@ chunk_at n (suc k) (suc i) xs d h =
 pub mapped : {X Y : Type 0} (f : X → Y) (n : ℕ) (xs : List X) (ys : List Y) (d : X) (e : Y) → length xs ≡ n → length ys ≡ n → ((k : ℕ) → k < n → get_or ys k e ≡ f (get_or xs k d)) → ys ≡ map f xs
 mapped f n xs ys d e h l at =
     ext_get_or e ys (map f xs) (l ∙ sym h ∙ sym (length-map xs f)) (λ k b. at k (omega arith) ∙ sym (get_or-map f xs k d e (omega arith)))
-
--- held bytes put into a block of zeros, and a mark behind them
-pub marked_block : (n mark k : ℕ) (held front : List ℕ) → front ≡ held → k ≡ length held → length held < n → slice_set (front ++ drop k (replicate n 0)) (length held) mark ≡ held ++ mark ∷ replicate (n - 1 - length held) 0
-marked_block n mark k held front e f h =
-    let left : n - length held ≡ suc (n - 1 - length held) = omega arith in
-    rw (e, f, drop-replicate {X = ℕ} (length held) n 0, left) (set_at held 0 (replicate (n - 1 - length held) 0) mark (length held) refl)

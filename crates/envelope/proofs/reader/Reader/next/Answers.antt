@@ -1,11 +1,8 @@
 use Rattle.std.proofs.Common.{◌≡◌, ◌-◌, ◌≤◌, length, take, drop, arith}
-use Rattle.std.proofs.lemmas.List.{take_rest, drop-drop}
+use Rattle.std.proofs.lemmas.List.{take_rest}
 use Rattle.std.proofs.lemmas.Grind.{common_steps}
 use Rattle.envelope.proofs.Steps.{found, known_from}
 use Rattle.envelope.proofs.reader.Reader.next.Goals as goal
-
-pub returns-clause-rest : goal.returns-clause-rest
-returns-clause-rest c = grind (arith, common_steps, take_rest, drop-drop)
 
 pub returns-clause-answers : goal.returns-clause-answers
 returns-clause-answers c =
