@@ -17,7 +17,7 @@ use Rattle.envelope.specs.Reading.{Outcome, next_at, next_kind, continued, fault
 use Rattle.envelope.proofs.Steps.{found}
 use Rattle.envelope.proofs.Readings.{onward, step}
 
-kind_of-kind_byte : (k : Kind) → kind_of (kind_byte k) ≡ Some k
+pub kind_of-kind_byte : (k : Kind) → kind_of (kind_byte k) ≡ Some k
 kind_of-kind_byte k = grind (arith, nat_tests)
 
 -- where a reading ends, with the bytes left: at the last byte, or at a fault that stands there

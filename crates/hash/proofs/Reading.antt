@@ -4,7 +4,7 @@ use mathlib.Core.Path.{fun_ext}
 use native.Mathlib.Nat.{add-div_left, add-mod_left, div-eq_of_lt, sub-zero}
 use borrow.Rule.Slice.PartMut.{put_mid}
 use Rattle.std.proofs.lemmas.Slice.{overwrites}
-use Rattle.std.proofs.lemmas.List.{drop-drop, get_or-take, nil_from_length, take_all}
+use Rattle.std.proofs.lemmas.List.{drop-drop, get_or-take, nil_from_length}
 use Rattle.hash.specs.Blocks.{in_blocks}
 use Rattle.hash.specs.Rows.{Row, past, front, ahead, unread, Gives}
 
@@ -88,8 +88,8 @@ unfolding ahead
 unread_none buffer from to row e = let none : to - from ≡ 0 = omega arith in rw none
 
 -- a buffer that has just been filled
-pub unread_fresh : (buffer : List ℕ) (n : ℕ) (row left : Row) → Gives n row buffer left → unread buffer 0 n left ≡ row
-unread_fresh buffer n row left g = simp (sub-zero, g.filled, g.rest, take_all n (front n row) (omega (arith, length-front n row))) (ahead-front n row)
+pub unread_fresh : (buffer : List ℕ) (n : ℕ) (row left : Row) → Gives n row (take n buffer) left → unread buffer 0 n left ≡ row
+unread_fresh buffer n row left g = simp (sub-zero, g.filled, g.rest) (ahead-front n row)
 
 -- bytes of which the first m were given, and the others are given over them
 pub gives_rest : (m : ℕ) (row middle left : Row) (out more : List ℕ) → m ≤ length out → Gives m row (take m out) middle → Gives (length (take (length out - m) (drop m out))) middle more left → Gives (length out) row (put_mid m (length out - m) out more) left

@@ -1,12 +1,13 @@
 -- Laws of SHA-256: padding, one block more, and the form of a digest.
-use Rattle.std.specs.Prelude.{◌≡◌, ℕ, suc, ◌+◌, ◌-◌, ◌*◌, ◌/◌, ◌%◌, ◌^◌, ◌<◌, ◌≤◌, List, [], ◌∷◌, ◌++◌, length, take, replicate}
+use Rattle.std.specs.Prelude.{◌≡◌, ℕ, zero, suc, ◌+◌, ◌-◌, ◌*◌, ◌/◌, ◌%◌, ◌^◌, ◌<◌, ◌≤◌, List, [], ◌∷◌, ◌++◌, length, take, drop, replicate}
 use Rattle.std.proofs.Common.{sym, refl, ◌∙◌, div-one, arith}
 use Rattle.std.proofs.Math.Path.{ap}
 use borrow.Rule.Slice.PartMut.{put_mid}
 use Rattle.std.proofs.lemmas.List.{append_assoc, append-nil, drop_all, drop-drop, length-append, length-take-le, replicate-append-replicate, places, take_all, take-replicate}
 use Rattle.std.proofs.Math.Seq.{take-append-add}
 use Rattle.hash.proofs.Feeding.{absorbed_block}
-use Rattle.hash.specs.Sha256.{big_endian, chain_bytes, compressed, digest_from, hashed, padding}
+use Rattle.hash.specs.Blocks.{absorbed}
+use Rattle.hash.specs.Sha256.{big_endian, chain_bytes, compressed, digest_from, hashed, initial, padding, sha256}
 
 -- a digest depends on the count of the bytes before only modulo 2 ^ 61
 pub digest-mod : (x : List ℕ) (n k : ℕ) (m : List ℕ) → n % 2 ^ 61 ≡ k % 2 ^ 61 → digest_from x n m ≡ digest_from x k m
@@ -29,6 +30,11 @@ unfolding digest_from
 digest_block x b m n h =
     let e : padding (n + length (b ++ m)) ≡ padding ((n + 64) % 2 ^ 61 + length m) = grind (arith, length-append b m) in
     rw (e, append_assoc) (ap chain_bytes (hashed_block x b (m ++ padding ((n + 64) % 2 ^ 61 + length m)) h))
+
+pub length-big_endian : (n x : ℕ) → length (big_endian n x) ≡ n
+unfolding big_endian
+length-big_endian zero x = refl
+length-big_endian (suc n) x = ap suc (length-big_endian n x)
 
 -- the block with the bytes h, a one bit and zeros
 abbrev marked : List ℕ → List ℕ
@@ -84,3 +90,28 @@ pub count_bytes : (t x : ℕ) → x ≡ (t * 8) % 2 ^ 64
     ≡ big_endian 8 (8 * (t % 2 ^ 61))
 unfolding big_endian
 count_bytes t x e = let f : 8 * (t % 2 ^ 61) ≡ x = omega arith in rw (f, div-one x)
+
+-- a digest has 32 bytes, for every list that is hashed
+length-absorbed : (k : ℕ) (x p : List ℕ) → length x ≡ 8 → length (absorbed compressed 64 k x p) ≡ 8
+unfolding compressed
+length-absorbed zero x p h = h
+length-absorbed (suc k) x p h = length-absorbed k (compressed x (take 64 p)) (drop 64 p) refl
+
+length-chain_bytes : (x : List ℕ) → length (chain_bytes x) ≡ 4 * length x
+unfolding big_endian
+length-chain_bytes [] = refl
+length-chain_bytes (w ∷ ws) = omega (arith, length-chain_bytes ws)
+
+pub length-digest : (x : List ℕ) (n : ℕ) (m : List ℕ) → length x ≡ 8 → length (digest_from x n m) ≡ 32
+unfolding digest_from
+length-digest x n m h =
+    let p = m ++ padding (n + length m) in
+    omega (arith, length-chain_bytes (hashed x p), length-absorbed (length p / 64) x p h)
+
+pub length-initial : length initial ≡ 8
+unfolding initial
+length-initial = refl
+
+pub length-sha256 : (m : List ℕ) → length (sha256 m) ≡ 32
+unfolding sha256
+length-sha256 m = length-digest initial 0 m length-initial

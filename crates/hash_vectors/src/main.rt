@@ -40,3 +40,33 @@ fn main(rt: HostRuntime) -> io::Result<ExitCode> {
     }
     Ok(ExitCode::SUCCESS)
 }
+
+#[cfg(test)]
+mod tests {
+    use super::answered_line;
+    use std::test::Fail;
+
+    #[test]
+    fn a_fault_says_what_is_wrong(rt: HostRuntime) -> Result<(), Fail> {
+        let heap = rt.alloc();
+        for (line, text) in [
+            ("sha256 hex:61 all", "not four words"),
+            ("sha1 hex:61 all digest", "unknown algorithm"),
+            ("sha256 text:61 all digest", "unknown form of message"),
+            ("sha256 hex:6A all digest", "not bytes in hex"),
+            ("sha256 count:x all digest", "not a number"),
+            ("sha256 hex:61 0,0 digest", "all pieces to feed are empty"),
+            ("sha256 hex:61 all 32", "the reads do not fit the algorithm"),
+            (
+                "sha256 repeat:61*18446744073709551615 all digest",
+                "no memory",
+            ),
+        ] {
+            match answered_line(heap, line) {
+                Ok(_) => assert_eq!(rt; line, text),
+                Err(fault) => assert_eq!(rt; format!(in heap; "{fault}")?.as_str(), text),
+            }
+        }
+        Ok(())
+    }
+}

@@ -53,7 +53,7 @@ fn main(rt: HostRuntime) -> ExitCode {
 
 #[cfg(test)]
 mod tests {
-    use super::read_input;
+    use super::{Failure, read_input};
     use listing::show;
     use std::io;
     use std::io::Read;
@@ -108,5 +108,23 @@ mod tests {
             let source = Few(io::repeat(0).take(given).chain(Broken));
             assert_eq!(rt; read_input(heap, source).is_ok(), is_read);
         }
+    }
+
+    #[test]
+    fn a_failure_says_what_failed(rt: HostRuntime) -> Result<(), Fail> {
+        let heap = rt.alloc();
+        for (failure, text) in [
+            (
+                Failure::Input(io::Error::other("it broke")),
+                "cannot read standard input: it broke",
+            ),
+            (
+                Failure::Listing(io::Error::other("it broke")),
+                "cannot write the listing: it broke",
+            ),
+        ] {
+            assert_eq!(rt; format!(in heap; "{failure}")?.as_str(), text);
+        }
+        Ok(())
     }
 }

@@ -1,4 +1,5 @@
 use Rattle.std.proofs.Common.{rules}
+use Rattle.std.proofs.lemmas.List.{take_all}
 use Rattle.hash.specs.Layers.{output_row}
 use Rattle.hash.proofs.Reading.{gives_none, unread_none, unread_fresh}
 use Rattle.hash.proofs.block_output.BlockOutput.finish.Goals as goal
@@ -12,5 +13,7 @@ returns-then-is_empty g c =
 pub returns : goal.returns
 returns g c =
     let row = g.S.Squeeze.row in
-    let fresh = unread_fresh c.squeeze-self.result g.row.SIZE (row c.args.self.now.below) (row c.squeeze-self.new.self) c.squeeze-self.ensures in
+    let n = g.row.SIZE in
+    let block = c.squeeze-self.result in
+    let fresh = unread_fresh block n (row c.args.self.now.below) (row c.squeeze-self.new.self) (rw (take_all n block (search rules)) c.squeeze-self.ensures) in
     rw (← fresh) c.give.ensures.given

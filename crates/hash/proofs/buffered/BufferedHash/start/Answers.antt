@@ -1,0 +1,4 @@
+use Rattle.hash.proofs.buffered.BufferedHash.start.Goals as goal
+
+pub returns : goal.returns
+returns g c = cc
