@@ -91,7 +91,6 @@ pub count_bytes : (t x : ℕ) → x ≡ (t * 8) % 2 ^ 64
 unfolding big_endian
 count_bytes t x e = let f : 8 * (t % 2 ^ 61) ≡ x = omega arith in rw (f, div-one x)
 
--- a digest has 32 bytes, for every list that is hashed
 length-absorbed : (k : ℕ) (x p : List ℕ) → length x ≡ 8 → length (absorbed compressed 64 k x p) ≡ 8
 unfolding compressed
 length-absorbed zero x p h = h
@@ -102,6 +101,7 @@ unfolding big_endian
 length-chain_bytes [] = refl
 length-chain_bytes (w ∷ ws) = omega (arith, length-chain_bytes ws)
 
+-- a digest has 32 bytes, for every list that is hashed
 pub length-digest : (x : List ℕ) (n : ℕ) (m : List ℕ) → length x ≡ 8 → length (digest_from x n m) ≡ 32
 unfolding digest_from
 length-digest x n m h =

@@ -11,7 +11,7 @@ const CAPACITY: usize = 64;
 // The hash `H` behind a buffer. It has the same rule.
 pub struct Buffered<H>(H);
 
-// The feeder below the buffer. Whichever it is, this is not `Copy`, so that nothing can be fed after the turn.
+// The feeder below the buffer. It is not `Copy`, whichever feeder it holds, so that nothing can be fed after the turn.
 pub struct Below<F>(F);
 
 impl<F: Feeder> Absorb<CAPACITY> for Below<F> {

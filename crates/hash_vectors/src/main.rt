@@ -62,10 +62,11 @@ mod tests {
                 "no memory",
             ),
         ] {
-            match answered_line(heap, line) {
-                Ok(_) => assert_eq!(rt; line, text),
-                Err(fault) => assert_eq!(rt; format!(in heap; "{fault}")?.as_str(), text),
-            }
+            let said = match answered_line(heap, line) {
+                Ok(answered) => answered,
+                Err(fault) => format!(in heap; "{fault}")?,
+            };
+            assert_eq!(rt; said.as_str(), text);
         }
         Ok(())
     }
